@@ -1,5 +1,5 @@
 //! The words behind a command's name: its options and its positional words.
-ghost use Rattle.std.specs.List.{list_any, position_or_len};
+ghost use Rattle.std.specs.List.{position_or_len};
 ghost use Rattle.std.specs.Prelude.{◌≡◌, ◌++◌, false, IfOk, OnOk, map, option_map, string_bytes};
 ghost use Rattle.command_words.specs.Words as spec;
 ghost use Rattle.command_words.specs.Words.{
@@ -17,96 +17,66 @@ ghost use Rattle.command_words.specs.Words.{
 
 use std::alloc::{AllocError, Global};
 use std::marker::Model;
-use text_model::Text;
 
 /// An option of the command line, and its value, if it has one.
 #[derive(Drop)]
-pub(crate) struct Choice {
-    name: Text,
-    value: Option<Text>,
+pub(crate) struct Choice<'a> {
+    pub name: &'a str,
+    pub value: Option<&'a str>,
 }
 
-impl Model for Choice {
+impl<'a> Model for Choice<'a> {
+    ghost use Rattle.std.specs.Prelude.{option_map};
     ghost use Rattle.command_words.specs.Words.{Choice};
 
     ghost Value = { Choice };
 
-    ghost view = { λ choice. record { name = choice.name; value = choice.value } };
-}
-
-impl Choice {
-    // An option with a copy of this name, and of this value, if it has one.
-    fn of(alloc: Global, name: &str, value: Option<&str>) -> Result<Choice, AllocError>
-        ensures name { IfOk result (λ choice. choice.name ≡ name.now) }
-        ensures value { IfOk result (λ choice. choice.value ≡ option_map (λ text. text.now) value.entry) }
-    {
-        Ok(Choice {
-            name: Text::copy_of(alloc, name)?,
-            value: match value {
-                Some(value) => Some(Text::copy_of(alloc, value)?),
-                None => None,
-            },
-        })
-    }
-
-    pub(crate) fn name(&self) -> &str
-        ensures { result.now ≡ self.now.name }
-    {
-        self.name.as_str()
-    }
-
-    pub(crate) fn value(&self) -> Option<&str>
-        ensures { option_map (λ text. text.now) result ≡ self.now.value }
-    {
-        match &self.value {
-            Some(value) => Some(value.as_str()),
-            None => None,
-        }
-    }
+    ghost view = { λ choice. record { name = choice.name.now; value = option_map (λ text. text.now) choice.value } };
 }
 
 /// What stands behind a command's name.
 #[derive(Drop)]
-pub(crate) struct Arguments {
-    choices: Vec<Choice>,
-    positional: Vec<Text>,
+pub(crate) struct Arguments<'a> {
+    choices: Vec<Choice<'a>>,
+    positional: Vec<&'a str>,
 }
 
-impl Model for Arguments {
+impl<'a> Model for Arguments<'a> {
+    ghost use Rattle.std.specs.Prelude.{map};
     ghost use Rattle.command_words.specs.Words.{Arguments};
 
     ghost Value = { Arguments };
 
-    ghost view = { λ arguments. record { choices = arguments.choices.items; positional = arguments.positional.items } };
+    ghost view = { λ arguments. record { choices = arguments.choices.items; positional = map (λ word. word.now) arguments.positional.items } };
 }
 
-impl Arguments {
+impl<'a> Arguments<'a> {
     /// The options and positional words among the words behind the name of a command with these flags.
     pub(crate) fn of(
         alloc: Global,
         flags: &[&str],
-        words: &[String],
-    ) -> Result<Arguments, AllocError>
+        words: &'a [String],
+    ) -> Result<Arguments<'a>, AllocError>
         ensures { IfOk result (λ arguments. arguments ≡ arguments_of (map (λ flag. flag.now) flags.now) (map string_bytes words.now)) }
     {
         let (front, behind) = parted(words);
         let choices = choices_in(alloc, flags, front)?;
         let mut positional = positional_in(alloc, flags, front)?;
-        push_all(alloc, &mut positional, behind)?;
+        push_all(&mut positional, behind)?;
         Ok(Arguments {
             choices,
             positional,
         })
     }
 
-    pub(crate) fn choices(&self) -> &[Choice]
+    pub(crate) fn choices(&self) -> &[Choice<'a>]
         ensures { result.now ≡ self.now.choices }
     {
         self.choices.as_slice()
     }
 
-    pub(crate) fn positional(&self) -> &[Text]
-        ensures { result.now ≡ self.now.positional }
+    pub(crate) fn positional(&self) -> &[&'a str]
+        ensures { map (λ word. word.now) result.now ≡ self.now.positional }
     {
         self.positional.as_slice()
     }
@@ -136,14 +106,18 @@ fn end_of(words: &[String]) -> usize
     end
 }
 
-fn choices_in(alloc: Global, flags: &[&str], words: &[String]) -> Result<Vec<Choice>, AllocError>
+fn choices_in<'a>(
+    alloc: Global,
+    flags: &[&str],
+    words: &'a [String],
+) -> Result<Vec<Choice<'a>>, AllocError>
     ensures { IfOk result (λ choices. choices.items ≡ choices_in (map (λ flag. flag.now) flags.now) (map string_bytes words.now)) }
 {
     let mut choices = Vec::new(alloc);
     let mut rest = words;
     while let Some((word, others)) = rest.split_first() {
         if is_option(word.as_str()) {
-            choices.push(choice_of(alloc, flags, word.as_str(), others)?)?;
+            choices.push(choice_of(flags, word.as_str(), others))?;
         }
         rest = others;
     }
@@ -151,18 +125,22 @@ fn choices_in(alloc: Global, flags: &[&str], words: &[String]) -> Result<Vec<Cho
 }
 
 // The option that a word is, by the words behind it.
-fn choice_of(
-    alloc: Global,
-    flags: &[&str],
-    word: &str,
-    rest: &[String],
-) -> Result<Choice, AllocError>
-    ensures { IfOk result (λ choice. choice ≡ choice_of (map (λ flag. flag.now) flags.now) word.now (map string_bytes rest.now)) }
+fn choice_of<'a>(flags: &[&str], word: &'a str, rest: &'a [String]) -> Choice<'a>
+    ensures { result ≡ choice_of (map (λ flag. flag.now) flags.now) word.now (map string_bytes rest.now) }
 {
     match word.split_once('=') {
-        Some((name, value)) => Choice::of(alloc, name, Some(value)),
-        None if is_among(word, flags) => Choice::of(alloc, word, None),
-        None => Choice::of(alloc, word, value_in(rest)),
+        Some((name, value)) => Choice {
+            name,
+            value: Some(value),
+        },
+        None if is_among(word, flags) => Choice {
+            name: word,
+            value: None,
+        },
+        None => Choice {
+            name: word,
+            value: value_in(rest),
+        },
     }
 }
 
@@ -177,15 +155,19 @@ fn value_in(rest: &[String]) -> Option<&str>
 }
 
 // The words that are neither options nor their values.
-fn positional_in(alloc: Global, flags: &[&str], words: &[String]) -> Result<Vec<Text>, AllocError>
-    ensures { IfOk result (λ positional. positional.items ≡ positional_in (map (λ flag. flag.now) flags.now) false (map string_bytes words.now)) }
+fn positional_in<'a>(
+    alloc: Global,
+    flags: &[&str],
+    words: &'a [String],
+) -> Result<Vec<&'a str>, AllocError>
+    ensures { IfOk result (λ positional. map (λ word. word.now) positional.items ≡ positional_in (map (λ flag. flag.now) flags.now) false (map string_bytes words.now)) }
 {
     let mut positional = Vec::new(alloc);
     let mut taken = false;
     let mut rest = words;
     while let Some((word, others)) = rest.split_first() {
         if !taken && !is_option(word.as_str()) {
-            positional.push(Text::copy_of(alloc, word.as_str())?)?;
+            positional.push(word.as_str())?;
         }
         taken = takes_next(flags, word.as_str());
         rest = others;
@@ -193,11 +175,11 @@ fn positional_in(alloc: Global, flags: &[&str], words: &[String]) -> Result<Vec<
     Ok(positional)
 }
 
-fn push_all(alloc: Global, texts: &mut Vec<Text>, words: &[String]) -> Result<(), AllocError>
-    ensures { OnOk result (texts.new.items ≡ texts.old.items ++ map string_bytes words.now) }
+fn push_all<'a>(texts: &mut Vec<&'a str>, words: &'a [String]) -> Result<(), AllocError>
+    ensures { OnOk result (map (λ text. text.now) texts.new.items ≡ map (λ text. text.now) texts.old.items ++ map string_bytes words.now) }
 {
     for word in words {
-        texts.push(Text::copy_of(alloc, word.as_str())?)?;
+        texts.push(word.as_str())?;
     }
     Ok(())
 }

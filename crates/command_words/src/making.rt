@@ -1,16 +1,20 @@
-//! Commands are made of what their words write.
-ghost use Rattle.std.specs.Prelude.{◌≡◌, All, IfSome};
+//! Commands are made of what their words write, which is taken in the order of the row.
+ghost use Rattle.std.specs.Prelude.{◌≡◌, All, IfSome, drop};
+ghost use Rattle.std.specs.Vec.Iter.{into_iter_items};
 ghost use Rattle.move_journal.specs.Journal.{IsParsed};
-ghost use Rattle.command_words.specs.Commands.{change_of, checking_of, command_by, demonstration_of, moving_of, names_by, new_vault_of, passes_of, repairing_of, resuming_of, target_of};
+ghost use Rattle.command_words.specs.Commands.{change_of, checking_of, command_by, demonstration_of, first, moving_of, names_by, new_vault_of, passes_of, repairing_of, resuming_of, second, target_of};
+ghost use Rattle.command_words.specs.Values.{folder_value};
 ghost use Rattle.command_words.specs.Written.{HasTexts, IsWritten};
 
 use crate::commands::{
     Change, Checking, Command, Demonstration, Moving, NewVault, Passes, Repairing, Resuming, Target,
 };
 use crate::rows::Verb;
-use crate::values::{Value, as_flag, as_folder, as_format, as_key, as_number, as_plain};
-use folder_model::FPath;
+use crate::values::{
+    Value, next_flag, next_folder, next_format, next_key, next_number, next_plain,
+};
 use plain_tree::NameMap;
+use std::vec::IntoIter;
 
 /// The command of what its words write.
 pub(crate) fn command(verb: Verb, values: Vec<Value>) -> Option<Command>
@@ -18,34 +22,30 @@ pub(crate) fn command(verb: Verb, values: Vec<Value>) -> Option<Command>
     ensures is { result ≡ command_by verb values.items }
     ensures texts { IfSome result HasTexts }
 {
+    let mut values = values.into_iter();
     match verb {
-        Verb::DecryptFile => as_key(values.into_iter().next()).map(Command::DecryptFile),
-        Verb::Init => new_vault(values).map(Command::Init),
-        Verb::Ls => target(values).map(Command::Ls),
-        Verb::Cat => target(values).map(Command::Cat),
-        Verb::Fsck => checking(values).map(Command::Fsck),
-        Verb::Mkdir => change(values).map(Command::Mkdir),
-        Verb::Put => change(values).map(Command::Put),
-        Verb::Repair => repairing(values).map(Command::Repair),
-        Verb::Migrate => moving(values).map(Command::Migrate),
-        Verb::Resume => resuming(values).map(Command::Resume),
-        Verb::Retire => resuming(values).map(Command::Retire),
-        Verb::Demo => demonstration(values).map(Command::Demo),
+        Verb::DecryptFile => next_key(&mut values).map(Command::DecryptFile),
+        Verb::Init => new_vault(&mut values).map(Command::Init),
+        Verb::Ls => target(&mut values).map(Command::Ls),
+        Verb::Cat => target(&mut values).map(Command::Cat),
+        Verb::Fsck => checking(&mut values).map(Command::Fsck),
+        Verb::Mkdir => change(&mut values).map(Command::Mkdir),
+        Verb::Put => change(&mut values).map(Command::Put),
+        Verb::Repair => repairing(&mut values).map(Command::Repair),
+        Verb::Migrate => moving(&mut values).map(Command::Migrate),
+        Verb::Resume => resuming(&mut values).map(Command::Resume),
+        Verb::Retire => resuming(&mut values).map(Command::Retire),
+        Verb::Demo => demonstration(&mut values).map(Command::Demo),
     }
 }
 
-fn new_vault(values: Vec<Value>) -> Option<NewVault>
-    ensures { result ≡ new_vault_of values.items }
+fn new_vault(values: &mut IntoIter<Value>) -> Option<NewVault>
+    ensures { result ≡ new_vault_of (into_iter_items values.old) }
 {
-    let mut values = values.into_iter();
-    let format = as_format(values.next())?;
-    let (Some(vault), Some(pass), Some(work)) = (
-        as_folder(values.next()),
-        as_folder(values.next()),
-        as_folder(values.next()),
-    ) else {
-        return None;
-    };
+    let format = next_format(values)?;
+    let vault = next_folder(values)?;
+    let pass = next_folder(values)?;
+    let work = next_folder(values)?;
     Some(NewVault {
         format,
         vault,
@@ -54,75 +54,51 @@ fn new_vault(values: Vec<Value>) -> Option<NewVault>
     })
 }
 
-fn target(values: Vec<Value>) -> Option<Target>
-    ensures { result ≡ target_of values.items }
+fn target(values: &mut IntoIter<Value>) -> Option<Target>
+    ensures is { result ≡ target_of (into_iter_items values.old) }
+    ensures rest { IfSome result (λ target. into_iter_items values.new ≡ drop 1 (drop 1 (drop 1 (into_iter_items values.old)))) }
 {
-    let mut values = values.into_iter();
-    let (Some(vault), Some(path), Some(pass)) = (
-        as_folder(values.next()),
-        as_plain(values.next()),
-        as_folder(values.next()),
-    ) else {
-        return None;
-    };
+    let vault = next_folder(values)?;
+    let path = next_plain(values)?;
+    let pass = next_folder(values)?;
     Some(Target { vault, path, pass })
 }
 
-fn checking(values: Vec<Value>) -> Option<Checking>
-    ensures { result ≡ checking_of values.items }
+fn checking(values: &mut IntoIter<Value>) -> Option<Checking>
+    ensures { result ≡ checking_of (into_iter_items values.old) }
 {
-    let mut values = values.into_iter();
-    let (Some(vault), Some(pass)) = (as_folder(values.next()), as_folder(values.next())) else {
-        return None;
-    };
+    let vault = next_folder(values)?;
+    let pass = next_folder(values)?;
     Some(Checking { vault, pass })
 }
 
-fn change(values: Vec<Value>) -> Option<Change>
-    ensures { result ≡ change_of values.items }
+fn change(values: &mut IntoIter<Value>) -> Option<Change>
+    ensures { result ≡ change_of (into_iter_items values.old) }
 {
-    let mut values = values.into_iter();
-    let (Some(vault), Some(path), Some(pass)) = (
-        as_folder(values.next()),
-        as_plain(values.next()),
-        as_folder(values.next()),
-    ) else {
-        return None;
-    };
-    let work = as_folder(values.next())?;
-    let target = Target { vault, path, pass };
+    let target = target(values)?;
+    let work = next_folder(values)?;
     Some(Change { target, work })
 }
 
-fn repairing(values: Vec<Value>) -> Option<Repairing>
-    ensures { result ≡ repairing_of values.items }
+fn repairing(values: &mut IntoIter<Value>) -> Option<Repairing>
+    ensures { result ≡ repairing_of (into_iter_items values.old) }
 {
-    let mut values = values.into_iter();
-    let (Some(vault), Some(lost), Some(pass)) = (
-        as_folder(values.next()),
-        as_folder(values.next()),
-        as_folder(values.next()),
-    ) else {
-        return None;
-    };
+    let vault = next_folder(values)?;
+    let lost = next_folder(values)?;
+    let pass = next_folder(values)?;
     Some(Repairing { vault, lost, pass })
 }
 
-fn moving(values: Vec<Value>) -> Option<Moving>
-    requires { All IsWritten values.items }
-    ensures is { result ≡ moving_of values.items }
+fn moving(values: &mut IntoIter<Value>) -> Option<Moving>
+    requires { All IsWritten (into_iter_items values.old) }
+    ensures is { result ≡ moving_of (into_iter_items values.old) }
     ensures written { IfSome result (λ moving. IsParsed moving.source × IsParsed moving.target) }
 {
-    let mut values = values.into_iter();
-    let (Some(source), Some(target), Some(work)) = (
-        as_folder(values.next()),
-        as_folder(values.next()),
-        as_folder(values.next()),
-    ) else {
-        return None;
-    };
-    let passes = passes(as_folder(values.next()), as_folder(values.next()))?;
-    let names = names_by(as_flag(values.next())?);
+    let source = next_folder(values)?;
+    let target = next_folder(values)?;
+    let work = next_folder(values)?;
+    let passes = passes(values)?;
+    let names = names_by(next_flag(values)?);
     Some(Moving {
         source,
         target,
@@ -138,30 +114,27 @@ fn names_by(nfc: bool) -> NameMap
     if nfc { NameMap::Nfc } else { NameMap::Same }
 }
 
-fn resuming(values: Vec<Value>) -> Option<Resuming>
-    ensures { result ≡ resuming_of values.items }
+fn resuming(values: &mut IntoIter<Value>) -> Option<Resuming>
+    ensures { result ≡ resuming_of (into_iter_items values.old) }
 {
-    let mut values = values.into_iter();
-    let work = as_folder(values.next())?;
-    let passes = passes(as_folder(values.next()), as_folder(values.next()))?;
+    let work = next_folder(values)?;
+    let passes = passes(values)?;
     Some(Resuming { work, passes })
 }
 
-fn passes(source: Option<FPath>, target: Option<FPath>) -> Option<Passes>
-    ensures { result ≡ passes_of source target }
+fn passes(values: &mut IntoIter<Value>) -> Option<Passes>
+    ensures is { result ≡ passes_of (folder_value (first (into_iter_items values.old))) (folder_value (second (into_iter_items values.old))) }
+    ensures rest { IfSome result (λ passes. into_iter_items values.new ≡ drop 1 (drop 1 (into_iter_items values.old))) }
 {
-    match (source, target) {
-        (Some(source), Some(target)) => Some(Passes { source, target }),
-        _ => None,
-    }
+    let source = next_folder(values)?;
+    let target = next_folder(values)?;
+    Some(Passes { source, target })
 }
 
-fn demonstration(values: Vec<Value>) -> Option<Demonstration>
-    ensures { result ≡ demonstration_of values.items }
+fn demonstration(values: &mut IntoIter<Value>) -> Option<Demonstration>
+    ensures { result ≡ demonstration_of (into_iter_items values.old) }
 {
-    let mut values = values.into_iter();
-    let (Some(seed), Some(count)) = (as_number(values.next()), as_number(values.next())) else {
-        return None;
-    };
+    let seed = next_number(values)?;
+    let count = next_number(values)?;
     Some(Demonstration { seed, count })
 }

@@ -1,5 +1,6 @@
 //! What the words behind a command's name write, by the command's row.
 ghost use Rattle.std.specs.List.{list_all};
+ghost use Rattle.std.specs.Slice.Iter.{iter_rest};
 ghost use Rattle.std.specs.Prelude.{◌≡◌, ◌==◌, ◌++◌, ◌∷◌, All, IfOk, IfSome, MatchOption, None, map, nat_le, option_map, string_bytes};
 ghost use Rattle.command_words.specs.Rows.{option_of_code, row_of_code};
 ghost use Rattle.command_words.specs.Words.{is_among};
@@ -10,7 +11,7 @@ use crate::arguments::{Arguments, Choice, is_among};
 use crate::rows::{Kind, Row, Valued};
 use crate::values::{Value, value_of};
 use std::alloc::{AllocError, Global};
-use text_model::Text;
+use std::slice::Iter;
 
 /// What they write: the positional words, then the options and then the flags, in the order of the row. `None` where they don't make the
 /// row's command.
@@ -109,8 +110,8 @@ fn are_of(row: &Row, choices: &[Choice]) -> bool
 fn is_of(row: &Row, choice: &Choice) -> bool
     ensures { result ≡ is_of (row_of_code row.now) choice.now }
 {
-    is_option_of(row.options, choice.name())
-        || is_among(choice.name(), row.flags) && choice.value().is_none()
+    is_option_of(row.options, choice.name)
+        || is_among(choice.name, row.flags) && choice.value.is_none()
 }
 
 fn is_option_of(options: &[Valued], name: &str) -> bool
@@ -130,7 +131,7 @@ fn times(name: &str, choices: &[Choice]) -> usize
 {
     let mut count = 0;
     for choice in choices {
-        if choice.name() == name {
+        if choice.name == name {
             count += 1;
         }
     }
@@ -138,18 +139,18 @@ fn times(name: &str, choices: &[Choice]) -> usize
 }
 
 // What positional words write.
-fn words_read(
+fn words_read<'a>(
     alloc: Global,
     kinds: &[Kind],
-    words: &[Text],
+    words: &'a [&'a str],
 ) -> Result<Option<Vec<Value>>, AllocError>
-    ensures is { IfOk result (λ values. option_map (λ all. all.items) values ≡ values_of kinds.now words.now) }
+    ensures is { IfOk result (λ values. option_map (λ all. all.items) values ≡ values_of kinds.now (map (λ word. word.now) words.now)) }
     ensures written { IfOk result (λ values. IfSome values (λ all. All IsWritten all.items)) }
 {
     let mut values = Vec::new(alloc);
-    let (mut kinds, mut words) = (kinds, words);
+    let (mut kinds, mut words) = (kinds, words.iter());
     while let Some((kind, more)) = kinds.split_first() {
-        let Some((word, others)) = next_word(*kind, more, words) else {
+        let Some(word) = next_word(*kind, more, &mut words) else {
             return Ok(None);
         };
         let Some(value) = value_of(alloc, *kind, word)? else {
@@ -157,23 +158,22 @@ fn words_read(
         };
         values.push(value)?;
         kinds = more;
-        words = others;
     }
-    if words.is_empty() {
+    if words.next().is_none() {
         Ok(Some(values))
     } else {
         Ok(None)
     }
 }
 
-// The word of this kind, before words of these kinds, and the words behind it: the empty text where it is left out.
-fn next_word<'a>(kind: Kind, more: &[Kind], words: &'a [Text]) -> Option<(&'a str, &'a [Text])>
-    ensures { MatchOption result (values_of (kind ∷ more.now) words.now ≡ None)
-        (λ found. values_of (kind ∷ more.now) words.now ≡ joined (value_by kind found.0.now) (values_of more.now found.1.now)) }
+// Takes the word of this kind, before words of these kinds: the empty text where it is left out.
+fn next_word<'a>(kind: Kind, more: &[Kind], words: &mut Iter<'a, &'a str>) -> Option<&'a str>
+    ensures { MatchOption result (values_of (kind ∷ more.now) (map (λ word. word.now) (iter_rest words.old)) ≡ None)
+        (λ found. values_of (kind ∷ more.now) (map (λ word. word.now) (iter_rest words.old)) ≡ joined (value_by kind found.now) (values_of more.now (map (λ word. word.now) (iter_rest words.new)))) }
 {
-    match words.split_first() {
-        Some((word, others)) => Some((word.as_str(), others)),
-        None if may_lack(kind, more) => Some(("", words)),
+    match words.next() {
+        Some(word) => Some(*word),
+        None if may_lack(kind, more) => Some(""),
         None => None,
     }
 }
@@ -211,12 +211,12 @@ fn options_read(
 }
 
 // The value of the first option of this name, if it has one.
-fn value_named<'a>(choices: &'a [Choice], name: &str) -> Option<&'a str>
+fn value_named<'a>(choices: &[Choice<'a>], name: &str) -> Option<&'a str>
     ensures { option_map (λ text. text.now) result ≡ value_named name.now choices.now }
 {
     for choice in choices {
-        if choice.name() == name {
-            return choice.value();
+        if choice.name == name {
+            return choice.value;
         }
     }
     None

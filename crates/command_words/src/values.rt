@@ -1,7 +1,9 @@
 //! What words write.
-ghost use Rattle.std.specs.Prelude.{◌≡◌, IfOk, IfSome};
+ghost use Rattle.std.specs.Prelude.{◌≡◌, IfOk, IfSome, drop};
+ghost use Rattle.std.specs.Vec.Iter.{into_iter_items};
 ghost use Rattle.move_journal.specs.Journal.{IsParsed};
 ghost use Rattle.plain_tree.specs.Reading.{read_path};
+ghost use Rattle.command_words.specs.Commands.{first};
 ghost use Rattle.command_words.specs.Values.{flag_value, folder_path, folder_value, format_of, format_value, key_of, key_value, number_value, plain_value, value_by};
 ghost use Rattle.command_words.specs.Written.{IsWritten};
 
@@ -10,6 +12,7 @@ use crate::rows::Kind;
 use folder_model::{FPath, FPathFault};
 use plain_tree::{PathFault, PlainPath};
 use std::alloc::{AllocError, Global};
+use std::vec::IntoIter;
 
 /// The formats in which vaults are made.
 #[derive(Clone, Copy, PartialEq, Eq, Drop)]
@@ -40,8 +43,7 @@ pub(crate) fn value_of(alloc: Global, kind: Kind, word: &str) -> Result<Option<V
 {
     match kind {
         Kind::FolderPath => Ok(folder_path(alloc, word)?.map(Value::Folder)),
-        Kind::PlainPath => Ok(plain_path(alloc, word)?.map(Value::Plain)),
-        Kind::PlainPathOrRoot => Ok(plain_path(alloc, word)?.map(Value::Plain)),
+        Kind::PlainPath | Kind::PlainPathOrRoot => Ok(plain_path(alloc, word)?.map(Value::Plain)),
         Kind::Format => Ok(format_of(word).map(Value::Format)),
         Kind::Key => Ok(key_of(word).map(Value::Key)),
         Kind::Number(most) => Ok(number_within(word, most).map(Value::Number)),
@@ -98,62 +100,68 @@ fn key_of(text: &str) -> Option<[u8; 32]>
     }
 }
 
-/// The folder path that a value is.
-pub(crate) fn as_folder(value: Option<Value>) -> Option<FPath>
-    ensures is { result ≡ folder_value value }
-    ensures written { IfSome value IsWritten → IfSome result IsParsed }
+/// Takes the next value: the folder path that it is.
+pub(crate) fn next_folder(values: &mut IntoIter<Value>) -> Option<FPath>
+    ensures is { result ≡ folder_value (first (into_iter_items values.old)) }
+    ensures rest { into_iter_items values.new ≡ drop 1 (into_iter_items values.old) }
+    ensures written { IfSome (first (into_iter_items values.old)) IsWritten → IfSome result IsParsed }
 {
-    match value {
+    match values.next() {
         Some(Value::Folder(path)) => Some(path),
         _ => None,
     }
 }
 
-/// The plain path that a value is.
-pub(crate) fn as_plain(value: Option<Value>) -> Option<PlainPath>
-    ensures { result ≡ plain_value value }
+/// Takes the next value: the plain path that it is.
+pub(crate) fn next_plain(values: &mut IntoIter<Value>) -> Option<PlainPath>
+    ensures is { result ≡ plain_value (first (into_iter_items values.old)) }
+    ensures rest { into_iter_items values.new ≡ drop 1 (into_iter_items values.old) }
 {
-    match value {
+    match values.next() {
         Some(Value::Plain(path)) => Some(path),
         _ => None,
     }
 }
 
-/// The format that a value is.
-pub(crate) fn as_format(value: Option<Value>) -> Option<Format>
-    ensures { result ≡ format_value value }
+/// Takes the next value: the format that it is.
+pub(crate) fn next_format(values: &mut IntoIter<Value>) -> Option<Format>
+    ensures is { result ≡ format_value (first (into_iter_items values.old)) }
+    ensures rest { into_iter_items values.new ≡ drop 1 (into_iter_items values.old) }
 {
-    match value {
+    match values.next() {
         Some(Value::Format(format)) => Some(format),
         _ => None,
     }
 }
 
-/// The key that a value is.
-pub(crate) fn as_key(value: Option<Value>) -> Option<[u8; 32]>
-    ensures { result ≡ key_value value }
+/// Takes the next value: the key that it is.
+pub(crate) fn next_key(values: &mut IntoIter<Value>) -> Option<[u8; 32]>
+    ensures is { result ≡ key_value (first (into_iter_items values.old)) }
+    ensures rest { into_iter_items values.new ≡ drop 1 (into_iter_items values.old) }
 {
-    match value {
+    match values.next() {
         Some(Value::Key(key)) => Some(key),
         _ => None,
     }
 }
 
-/// The number that a value is.
-pub(crate) fn as_number(value: Option<Value>) -> Option<u64>
-    ensures { result ≡ number_value value }
+/// Takes the next value: the number that it is.
+pub(crate) fn next_number(values: &mut IntoIter<Value>) -> Option<u64>
+    ensures is { result ≡ number_value (first (into_iter_items values.old)) }
+    ensures rest { into_iter_items values.new ≡ drop 1 (into_iter_items values.old) }
 {
-    match value {
+    match values.next() {
         Some(Value::Number(number)) => Some(number),
         _ => None,
     }
 }
 
-/// Whether a flag is there.
-pub(crate) fn as_flag(value: Option<Value>) -> Option<bool>
-    ensures { result ≡ flag_value value }
+/// Takes the next value: whether the flag is there.
+pub(crate) fn next_flag(values: &mut IntoIter<Value>) -> Option<bool>
+    ensures is { result ≡ flag_value (first (into_iter_items values.old)) }
+    ensures rest { into_iter_items values.new ≡ drop 1 (into_iter_items values.old) }
 {
-    match value {
+    match values.next() {
         Some(Value::Flag(there)) => Some(there),
         _ => None,
     }

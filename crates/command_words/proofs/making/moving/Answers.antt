@@ -4,8 +4,7 @@ use Rattle.command_words.proofs.WrittenValues.{first_written, rest_written}
 use Rattle.command_words.proofs.making.moving.Goals as goal
 
 pub returns-clause-written : goal.returns-clause-written
-returns-clause-written c =
-    let all = subst (All IsWritten) (sym c.into_iter-values.ensures.rest) c.requires in (
-      c.in-Some-Some-Some.ensures.written (first_written _ _ _ c.next.ensures.items all),
-      c.in-Some-Some-Some.ensures'.written (first_written _ _ _ c.next-2.ensures.items (rest_written _ _ _ c.next.ensures.items all)),
-    )
+returns-clause-written c = (
+  c.in_ok-source.ensures.written (first_written _ c.requires),
+  c.in_ok-target.ensures.written (first_written _ (subst (All IsWritten) (sym c.in_ok-source.ensures.rest) (rest_written _ c.requires))),
+)

@@ -1,7 +1,7 @@
 -- What is still to come of a file that is fed to a decoder piece by piece. The limit is a variable here.
-use Rattle.std.proofs.Common.{◌≡◌, ℕ, zero, suc, ◌+◌, ◌-◌, ◌≤◌, ◌<◌, min, ◌∷◌, replicate, nat_lt, Bool, true, false, List, [], ◌++◌, length, take, drop, Ok, Err, refl, sym, ap, ap₂, ◌∙◌, arith, append_assoc}
+use Rattle.std.proofs.Common.{◌≡◌, ℕ, zero, suc, ◌+◌, ◌-◌, ◌≤◌, ◌<◌, min, ◌∷◌, replicate, nat_lt, Bool, true, false, if◌then◌else◌, List, [], ◌++◌, length, take, drop, Ok, Err, refl, sym, ap, ap₂, ◌∙◌, arith, append_assoc}
 use Rattle.std.proofs.lemmas.Bool.{le-ltb, lt-ltb}
-use Rattle.std.proofs.lemmas.List.{drop_all, drop-take, drop-drop, take-take, take-append-drop, length-take, length-drop, take_at}
+use Rattle.std.proofs.lemmas.List.{drop_all, drop-take, drop-drop, take-take, take-append-drop, length-take, length-drop, take_all, take_at}
 use Rattle.chunk_files.specs.declared.fault.ChunkFault.{ChunkFault}
 use Rattle.chunk_files.specs.declared.step.Step.TheVariants.{More, Chunk, End}
 use Rattle.chunk_files.specs.Reading.{Ending, Reading, Whole, Wanting, Faulty, ends, chunk_before}
@@ -66,11 +66,11 @@ module _ (limit : ℕ) (d : Decoding) (bytes : List ℕ) where
 
 -- ---- what a read gives
 
--- nothing is read behind a file's end alone
-pub read_none : (there : Found) (bytes old new : List ℕ) (start n : ℕ) → there ≡ FileOf bytes → Reads there start old new n → n ≡ 0 → 0 < length old → length bytes ≤ start
-read_none there bytes old new start n is (other, file, count, put) none some =
+-- fewer bytes than there is room for are read at a file's end alone
+pub read_short : (there : Found) (bytes old new : List ℕ) (start n : ℕ) → there ≡ FileOf bytes → Reads there start old new n → n < length old → length bytes ≤ start + n
+read_short there bytes old new start n is (other, file, count, put) short =
     let same : other ≡ bytes = (let both : FileOf other ≡ FileOf bytes = sym file ∙ is in cc both) in
-    omega (arith, count, none, some, ap length same)
+    omega (arith, count, short, ap length same)
 
 -- a piece
 pub read_some : (there : Found) (bytes old new : List ℕ) (start n : ℕ) → there ≡ FileOf bytes → Reads there start old new n → start ≤ length bytes
@@ -96,6 +96,29 @@ feeds_piece bytes piece d d2 n front is on within there =
       suits = record { front = there; whole = λ ended. (let no : true ≡ false = sym ended ∙ on in cc) };
       same = still_fed content_limit d bytes n within;
     })
+
+-- what was read is fed
+pub feeds_read : (there : Found) (bytes old new : List ℕ) (d d2 : Decoding) (start n fed : ℕ) → there ≡ FileOf bytes → Reads there start old new n → Suits d bytes
+    → start ≡ d.taken → d.ended ≡ false → n ≤ length new → length d.held + length old ≤ 32816 → start + length old ≤ content_limit
+    → fed ≡ (if d.ended then 0 else min (length (take n new)) (32816 - length d.held))
+    → d2 ≡ record d { taken = d.taken + fed; held = d.held ++ take fed (take n new) } → FeedsOn bytes d d2 × (d2.taken ≡ start + n)
+feeds_read there bytes old new d d2 start n fed file reads s from on within room few count is =
+    let r = read_some there bytes old new start n file reads (omega (arith, s.front, from)) in
+    let size : length (take n new) ≡ n = omega (arith, length-take {A = ℕ} n new, within) in
+    let least : fed ≡ min (length (take n new)) (32816 - length d.held) = rw on at count in
+    let all : fed ≡ n = omega (arith, least, size, room, r.2) in
+    let whole : take fed (take n new) ≡ take n new = take_all fed (take n new) (omega (arith, all, size)) in
+    let now : d2 ≡ record d { taken = d.taken + n; held = d.held ++ take n new } =
+    is ∙ ap₂ (λ (m : ℕ) (b : List ℕ). record d { taken = d.taken + m; held = d.held ++ b }) all whole in (
+      feeds_piece bytes (take n new) d d2 n (r.0 ∙ ap (λ (m : ℕ). take n (drop m bytes)) from) now on (omega (arith, r.2, few, from)) (omega (arith, r.1, from)),
+      ap (λ (e : Decoding). e.taken) now ∙ ap (λ (m : ℕ). m + n) (sym from),
+    )
+
+-- and nothing is left behind it
+pub feeds_rest : (bytes : List ℕ) (d d2 d3 : Decoding) → FeedsOn bytes d d2 → d3 ≡ record d2 { ended = true } → length bytes ≤ d2.taken → FeedsOn bytes d d3
+feeds_rest bytes d d2 d3 fed is all =
+    let end = feeds_end bytes d2 d3 is fed.suits all in
+    record { suits = end.suits; same = fed.same ∙ end.same }
 
 -- ---- chunks without bytes that are passed over
 

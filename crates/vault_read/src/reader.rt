@@ -138,8 +138,8 @@ fn next_given<F: Folder>(
     }
 }
 
-// Reads the next bytes of a file into a decoder that wants more, or tells it that the file has ended. It answers false where the file
-// goes on past the limit. The bytes pass through `spare`.
+// Reads the next bytes of a file into a decoder that wants more, and tells it where the file has ended behind them. It answers false
+// where the file goes on past the limit. The bytes pass through `spare`.
 fn read_on<F: Folder>(
     folder: &mut F,
     at: &FPath,
@@ -202,7 +202,7 @@ fn has_ended<F: Folder>(
     Ok(true)
 }
 
-// Reads the next bytes of a file into `piece` and feeds them, or tells the decoder that the file has ended where there are none.
+// Reads the next bytes of a file into `piece` and feeds them, and tells the decoder that the file has ended where they don't fill it.
 fn read_piece<F: Folder>(
     folder: &mut F,
     at: &FPath,
@@ -226,11 +226,10 @@ fn read_piece<F: Folder>(
     ensures counts { CountsAbove (F.faults folder.old) (F.faults folder.new) result }
 {
     let count = folder.read(at, *taken, piece)?;
-    if count == 0 {
+    decoder.feed(&piece[..count]);
+    *taken += count as u64;
+    if count < piece.len() {
         decoder.end();
-    } else {
-        decoder.feed(&piece[..count]);
-        *taken += count as u64;
     }
     Ok(())
 }

@@ -1,9 +1,9 @@
-use Rattle.std.proofs.Common.{◌≤◌, ℕ, Bool, [], ◌∷◌, length, lit<, arith}
+use Rattle.std.proofs.Common.{◌≤◌, ◌+◌, ℕ, Bool, [], ◌∷◌, length, arith}
 use Rattle.std.proofs.lemmas.Result.{err_from_is_err_and}
 use Rattle.folder_spec.specs.Seen.{ShowsFile}
 use Rattle.folder_model.specs.Answers.{Reads}
 use Rattle.folder_model.proofs.Counting.{counts_at_fault}
-use Rattle.vault_read.proofs.StillToCome.{read_none, feeds_end}
+use Rattle.vault_read.proofs.StillToCome.{read_short, feeds_end}
 use Rattle.vault_read.proofs.reader.has_ended.Goals as goal
 
 pub returns-in_err-read-clause-counts : goal.returns-in_err-read-clause-counts
@@ -18,6 +18,7 @@ returns-in_err-read-clause-counts g c =
 
 pub returns-clause-reads : goal.returns-clause-reads
 returns-clause-reads g c = λ v seen bytes file s.
-    let none : length bytes ≤ c.args.taken =
-    read_none (v c.args.at.now) bytes (0 ∷ []) c.read.new.out c.args.taken c.in_ok-read.field-0 file (c.in_ok-read.ensures.answer v seen).1 (omega (arith, c.if-branch-gt0.false)) (lit< tt) in
-    feeds_end bytes c.args.decoder.now c.end.new.self c.end.ensures.told s (omega (arith, none, c.requires.taken))
+    let n = c.in_ok-read.field-0 in
+    let none : length bytes ≤ c.args.taken + n =
+    read_short (v c.args.at.now) bytes (0 ∷ []) c.read.new.out c.args.taken n file (c.in_ok-read.ensures.answer v seen).1 (omega (arith, c.if-branch-gt0.false)) in
+    feeds_end bytes c.args.decoder.now c.end.new.self c.end.ensures.told s (omega (arith, none, c.if-branch-gt0.false, c.requires.taken))

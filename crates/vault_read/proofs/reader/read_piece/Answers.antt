@@ -1,11 +1,9 @@
-use Rattle.std.proofs.Common.{◌≡◌, ◌∙◌, ◌++◌, ◌+◌, ◌-◌, min, List, ℕ, length, take, drop, ap, ap₂, arith, length-take}
+use Rattle.std.proofs.Common.{ℕ, arith}
 use Rattle.std.proofs.lemmas.Result.{err_from_is_err_and}
-use Rattle.std.proofs.lemmas.List.{take_all}
-use Rattle.chunk_files.specs.Decoding.{Decoding}
 use Rattle.folder_spec.specs.Seen.{ShowsFile}
 use Rattle.folder_model.specs.Answers.{Reads}
 use Rattle.folder_model.proofs.Counting.{counts_at_fault}
-use Rattle.vault_read.proofs.StillToCome.{read_some, feeds_piece}
+use Rattle.vault_read.proofs.StillToCome.{feeds_read, feeds_rest, read_short}
 use Rattle.vault_read.proofs.reader.read_piece.Goals as goal
 
 pub returns-in_err-count-clause-counts : goal.returns-in_err-count-clause-counts
@@ -18,17 +16,16 @@ returns-in_err-count-clause-counts g c =
     (λ v n. Reads (v at) c.args.taken.now c.args.piece.now c.read.new.out n) c.in_err-count.field-0.0 (omega arith) c.requires.file
     c.in_err-count.ensures.answer c.in_err-count.ensures.counts)
 
-pub returns-else-count-eq0-clause-reads : goal.returns-else-count-eq0-clause-reads
-returns-else-count-eq0-clause-reads g c = λ v seen bytes file s.
-    let d : Decoding = c.args.decoder.now in
+pub returns-then-count-piece-clause-reads : goal.returns-then-count-piece-clause-reads
+returns-then-count-piece-clause-reads g c = λ v seen bytes file s.
     let n = c.in_ok-count.count in
-    let piece : List ℕ = take n c.read.new.out in
-    let r = read_some (v c.args.at.now) bytes c.args.piece.now c.read.new.out c.args.taken.now n file (c.in_ok-count.ensures.answer v seen).1 (omega (arith, s.front, c.requires.taken)) in
-    let size : length piece ≡ n = omega (arith, length-take {A = ℕ} n c.read.new.out, c.in_ok-count.ensures.within, c.read.auto.out) in
-    let least : c.feed.result ≡ min (length piece) (32816 - length d.held) = rw c.requires.open at c.feed.ensures.count in
-    let result : c.feed.result ≡ n = omega (arith, least, size, c.requires.room, c.in_ok-count.ensures.within) in
-    let all : take c.feed.result piece ≡ piece = take_all c.feed.result piece (omega (arith, result, size)) in
-    let is : c.feed.new.self ≡ record d { taken = d.taken + n; held = d.held ++ piece } =
-    c.feed.ensures.held ∙ ap₂ (λ (m : ℕ) (b : List ℕ). record d { taken = d.taken + m; held = d.held ++ b }) result all in
-    let front : piece ≡ take n (drop d.taken bytes) = r.0 ∙ ap (λ (m : ℕ). take n (drop m bytes)) c.requires.taken in
-    feeds_piece bytes piece d c.feed.new.self n front is c.requires.open (omega (arith, r.2, c.requires.within, c.requires.taken)) (omega (arith, r.1, c.requires.taken))
+    let reads = (c.in_ok-count.ensures.answer v seen).1 in
+    let fed = feeds_read (v c.args.at.now) bytes c.args.piece.now c.read.new.out c.args.decoder.now c.feed.new.self c.args.taken.now n c.feed.result file reads s c.requires.taken c.requires.open
+    (omega (arith, c.in_ok-count.ensures.within, c.read.auto.out)) c.requires.room c.requires.within c.feed.ensures.count c.feed.ensures.held in
+    let short = read_short (v c.args.at.now) bytes c.args.piece.now c.read.new.out c.args.taken.now n file reads (omega (arith, c.if-count-piece.true, c.read.auto.out)) in
+    feeds_rest bytes c.args.decoder.now c.feed.new.self c.end.new.self fed.0 c.end.ensures.told (omega (arith, short, fed.1))
+
+pub returns-else-count-piece-clause-reads : goal.returns-else-count-piece-clause-reads
+returns-else-count-piece-clause-reads g c = λ v seen bytes file s.
+    (feeds_read (v c.args.at.now) bytes c.args.piece.now c.read.new.out c.args.decoder.now c.feed.new.self c.args.taken.now c.in_ok-count.count c.feed.result file (c.in_ok-count.ensures.answer v seen).1 s c.requires.taken c.requires.open
+    (omega (arith, c.in_ok-count.ensures.within, c.read.auto.out)) c.requires.room c.requires.within c.feed.ensures.count c.feed.ensures.held).0

@@ -1,5 +1,5 @@
 -- What a header told, as each layout keeps it.
-use Rattle.std.specs.Prelude.{◌≡◌, ⊤, ℕ, Bool, true, false, List, take, drop, Option, None, Some, Result, Ok, Err}
+use Rattle.std.specs.Prelude.{◌≡◌, ⊤, ℕ, Bool, true, false, List, Option, None, Some, Result, Ok, Err}
 use Rattle.chunk_files.specs.declared.fault.ChunkFault.{ChunkFault}
 use Rattle.chunk_files.specs.declared.keys.Layout.{Layout}
 use Rattle.chunk_files.specs.declared.keys.Layout.TheVariants as layout
@@ -10,29 +10,29 @@ use Rattle.chunk_files.specs.Keys.{Keys}
 
 -- the key of the chunks, and the bytes that bind them to their file
 abbrev pub header_of : Told → Header
-header_of (told.Go gcm id) = record { key = gcm; file = id }
-header_of (told.CmGcm gcm nonce) = record { key = gcm; file = nonce }
-header_of (told.CmCtr key nonce) = record { key = key; file = nonce }
+header_of (told.Go vault id) = record { key = vault; file = id }
+header_of (told.CmGcm told) = record { key = told.chunks; file = told.nonce }
+header_of (told.CmCtr told) = record { key = told.chunks; file = told.nonce }
 
 abbrev pub layout_of : Told → Layout
-layout_of (told.Go gcm id) = layout.Go
-layout_of (told.CmGcm gcm nonce) = layout.CmGcm
-layout_of (told.CmCtr key nonce) = layout.CmCtr
+layout_of (told.Go vault id) = layout.Go
+layout_of (told.CmGcm told) = layout.CmGcm
+layout_of (told.CmCtr told) = layout.CmCtr
+
+-- the key under which headers are opened and sealed
+abbrev pub vault_key : Told → List ℕ
+vault_key (told.Go vault id) = vault
+vault_key (told.CmGcm told) = told.vault
+vault_key (told.CmCtr told) = told.vault
 
 -- what a header told, once it is read
 abbrev pub header_told : Bool → Told → Option Header
 header_told true told = Some (header_of told)
 header_told false told = None
 
--- what stands there is of the keys' layout, and has the vault's key until the header is read
-abbrev pub Suits : Bool → Told → Keys → Type 0
-Suits is_told told keys = (layout_of told ≡ keys.layout) × (is_told ≡ false → (header_of told).key ≡ keys.key)
-
--- the bytes of a header that bind the chunks behind it to their file
-abbrev pub file_in : Layout → List ℕ → List ℕ
-file_in layout.Go header = drop 2 header
-file_in layout.CmGcm header = take 12 header
-file_in layout.CmCtr header = take 16 header
+-- it is of these keys
+abbrev pub Suits : Told → Keys → Type 0
+Suits told keys = (layout_of told ≡ keys.layout) × (vault_key told ≡ keys.key)
 
 -- what a header told, or its fault
 abbrev pub header_or_fault : Result ⊤ ChunkFault → Header → Result Header ChunkFault

@@ -40,8 +40,8 @@ pub fn open_chunk(
 {
     match told {
         Told::Go(gcm, id) => open_go(gcm, id, number, stored, out),
-        Told::CmGcm(gcm, nonce) => open_cm(gcm, nonce, number, stored, out),
-        Told::CmCtr(key, nonce) => open_ctr(key, keys.mac(), nonce, number, stored, out),
+        Told::CmGcm(file) => open_cm(&file.chunks, &file.nonce, number, stored, out),
+        Told::CmCtr(file) => open_ctr(&file.chunks, keys.mac(), &file.nonce, number, stored, out),
     }
 }
 
@@ -148,8 +148,16 @@ pub fn seal_chunk(
 {
     match told {
         Told::Go(gcm, id) => seal_gcm(gcm, id, number, nonce, chunk, out),
-        Told::CmGcm(gcm, file) => seal_gcm(gcm, file, number, nonce, chunk, out),
-        Told::CmCtr(key, file) => seal_ctr(key, keys.mac(), file, number, nonce, chunk, out),
+        Told::CmGcm(file) => seal_gcm(&file.chunks, &file.nonce, number, nonce, chunk, out),
+        Told::CmCtr(file) => seal_ctr(
+            &file.chunks,
+            keys.mac(),
+            &file.nonce,
+            number,
+            nonce,
+            chunk,
+            out,
+        ),
     }
 }
 

@@ -8,7 +8,7 @@ use crate::header::read_header;
 use crate::held::Held;
 use crate::keys::ContentKeys;
 use crate::step::Step;
-use crate::told::{Told, untold};
+use crate::told::{Told, boxed, untold};
 use std::alloc::{AllocError, Global};
 use std::marker::Model;
 
@@ -17,8 +17,7 @@ use std::marker::Model;
 #[derive(Drop)]
 pub struct Decoder {
     keys: ContentKeys,
-    // Boxed, since a decoder is moved by each function that makes one. Before the header is read, the vault's
-    // key stands there.
+    // Boxed, since a decoder is moved by each function that makes one.
     told: Box<Told>,
     is_told: bool,
     number: u64,
@@ -37,7 +36,7 @@ impl Model for Decoder {
     ghost view = { λ d. record { keys = d.keys; header = header_told d.is_told d.told.value; number = d.number; taken = d.taken; held = d.held; ended = d.ended } };
 
     ghost invariant = { λ d. IsPlaced (record { keys = d.keys; header = header_told d.is_told d.told.value; number = d.number; taken = d.taken; held = d.held; ended = d.ended })
-        × Suits d.is_told d.told.value d.keys };
+        × Suits d.told.value d.keys };
 }
 
 impl Decoder {
@@ -47,7 +46,7 @@ impl Decoder {
         ensures { IfOk result (λ d. d ≡ started keys) }
     {
         let held = Held::new(alloc)?;
-        let told = untold(alloc, &keys)?;
+        let told = boxed(alloc, untold(&keys))?;
         Ok(Decoder {
             keys,
             told,
@@ -57,6 +56,34 @@ impl Decoder {
             held,
             ended: false,
         })
+    }
+
+    /// Begins another file, as a decoder that was just started. It takes no memory. Under the same keys their
+    /// tables serve again.
+    pub fn restart(&mut self, keys: ContentKeys)
+        ensures { self.new ≡ started keys }
+    {
+        if !self.keys.is_same(&keys) {
+            self.take(keys);
+        }
+        self.is_told = false;
+        self.number = 0;
+        self.taken = 0;
+        self.held.clear();
+        self.ended = false;
+    }
+
+    // Takes other keys. It is apart, since a function clears its locals when it begins.
+    fn take(&mut self, keys: ContentKeys)
+        ensures { self.new ≡ started keys }
+    {
+        *self.told = untold(&keys);
+        self.keys = keys;
+        self.is_told = false;
+        self.number = 0;
+        self.taken = 0;
+        self.held.clear();
+        self.ended = false;
     }
 
     /// How many bytes there is room for.

@@ -9,15 +9,12 @@ ghost use Rattle.chunk_files.specs.Keys.{format_of};
 
 use crate::chunk::seal_chunk;
 use crate::chunk_buf::{CHUNK_BUFFER_SIZE, ChunkBuf};
-use crate::draw::{draw, draw_nonce, draw_some};
+use crate::draw::draw_nonce;
 use crate::fault::EncodeFault;
-use crate::header::{CM_HEADER, CTR_HEADER, GO_HEADER, go_header, new_plain};
-use crate::keys::{ContentKeys, Layout};
-use crate::told::Told;
-use aes_lanes::Key256;
-use gcm_mode::Gcm;
+use crate::keys::ContentKeys;
+use crate::new_header::make_header;
+use crate::told::{Told, untold};
 use port_model::Randoms;
-use port_model::laws::draws_compose;
 use std::marker::Model;
 
 /// An encoder of one content file, chunk by chunk. It draws what its layout draws for a header and for each
@@ -32,13 +29,13 @@ pub struct Encoder {
 impl Model for Encoder {
     ghost use Rattle.std.specs.Prelude.{◌≡◌};
     ghost use Rattle.chunk_files.specs.Encoding.{Encoding};
-    ghost use Rattle.chunk_files.specs.Told.{header_of, layout_of};
+    ghost use Rattle.chunk_files.specs.Told.{Suits, header_of};
 
     ghost Value = { Encoding };
 
     ghost view = { λ e. record { keys = e.keys; header = header_of e.told; number = e.number } };
 
-    ghost invariant = { λ e. layout_of e.told ≡ e.keys.layout };
+    ghost invariant = { λ e. Suits e.told e.keys };
 }
 
 /// A file that was begun: its encoder, and the length of its header.
@@ -67,23 +64,77 @@ impl Encoder {
         ensures fault { IfErr result (DrawFails (format_of keys) (format_of keys).header_draw (R.left random.old) (R.left random.new) (R.faults random.old) (R.faults random.new)) }
         ensures counted { begins_bare keys empty ≡ false → IsCounted (R.faults random.old) (R.faults random.new) }
     {
-        let layout = keys.layout();
-        if empty && layout.empty_has_no_header() {
-            let told = Told::Go(keys.gcm(), [0; 16]);
-            return Ok(Begun {
-                encoder: Encoder {
-                    keys,
-                    told,
-                    number: 0,
-                },
-                length: 0,
-            });
+        let mut encoder = Encoder::new(keys);
+        let length = encoder.begin_under_its_keys(random, empty, out)?;
+        Ok(Begun { encoder, length })
+    }
+
+    /// An encoder under these keys, of which no file was begun. It takes no memory.
+    pub fn new(keys: ContentKeys) -> Encoder
+        ensures { result.keys ≡ keys }
+    {
+        let told = untold(&keys);
+        Encoder {
+            keys,
+            told,
+            number: 0,
         }
-        match layout {
-            Layout::Go => start_go(keys, random, out),
-            Layout::CmGcm => start_cm(keys, random, out),
-            Layout::CmCtr => start_ctr(keys, random, out),
+    }
+
+    /// Begins another file as `start` does, in the place of the one before. Under the same keys their tables
+    /// serve again.
+    pub fn begin<R: Randoms>(
+        &mut self,
+        keys: ContentKeys,
+        random: &mut R,
+        empty: bool,
+        out: &mut ChunkBuf,
+    ) -> Result<usize, EncodeFault>
+        ensures bare_never_fails { begins_bare keys empty ≡ true → IsOk result }
+        ensures bare_draws_nothing { begins_bare keys empty ≡ true → random.new ≡ random.old }
+        ensures bare_file { begins_bare keys empty ≡ true → IfOk result (λ length. IsEncrypted keys [] [] (take length out.new)) }
+        ensures header { begins_bare keys empty ≡ false → IfOk result (λ length. HasBegun keys (R.left random.old) (R.left random.new) self.new (take length out.new)) }
+        ensures length { IfOk result (λ length. length ≡ (if begins_bare keys empty then 0 else (format_of keys).header_size)) }
+        ensures begun { OnOk result (self.new ≡ begun keys self.new.header) }
+        ensures buffer { begins_bare keys empty ≡ false → OnOk result (length out.new ≡ CHUNK_BUFFER_SIZE) }
+        ensures fault { IfErr result (DrawFails (format_of keys) (format_of keys).header_draw (R.left random.old) (R.left random.new) (R.faults random.old) (R.faults random.new)) }
+        ensures counted { begins_bare keys empty ≡ false → IsCounted (R.faults random.old) (R.faults random.new) }
+    {
+        self.turn_to(keys);
+        self.begin_under_its_keys(random, empty, out)
+    }
+
+    // Takes these keys, whose tables are made where they are others.
+    fn turn_to(&mut self, keys: ContentKeys)
+        ensures { self.new.keys ≡ keys }
+    {
+        if !self.keys.is_same(&keys) {
+            *self = Encoder::new(keys);
         }
+    }
+
+    // Begins a file under its keys.
+    fn begin_under_its_keys<R: Randoms>(
+        &mut self,
+        random: &mut R,
+        empty: bool,
+        out: &mut ChunkBuf,
+    ) -> Result<usize, EncodeFault>
+        ensures bare_never_fails { begins_bare self.old.keys empty ≡ true → IsOk result }
+        ensures bare_draws_nothing { begins_bare self.old.keys empty ≡ true → random.new ≡ random.old }
+        ensures bare_file { begins_bare self.old.keys empty ≡ true → IfOk result (λ length. IsEncrypted self.old.keys [] [] (take length out.new)) }
+        ensures header { begins_bare self.old.keys empty ≡ false → IfOk result (λ length. HasBegun self.old.keys (R.left random.old) (R.left random.new) self.new (take length out.new)) }
+        ensures length { IfOk result (λ length. length ≡ (if begins_bare self.old.keys empty then 0 else (format_of self.old.keys).header_size)) }
+        ensures begun { OnOk result (self.new ≡ begun self.old.keys self.new.header) }
+        ensures buffer { begins_bare self.old.keys empty ≡ false → OnOk result (length out.new ≡ CHUNK_BUFFER_SIZE) }
+        ensures fault { IfErr result (DrawFails (format_of self.old.keys) (format_of self.old.keys).header_draw (R.left random.old) (R.left random.new) (R.faults random.old) (R.faults random.new)) }
+        ensures counted { begins_bare self.old.keys empty ≡ false → IsCounted (R.faults random.old) (R.faults random.new) }
+    {
+        self.number = 0;
+        if empty && self.keys.layout().empty_has_no_header() {
+            return Ok(0);
+        }
+        make_header(&self.keys, &mut self.told, random, out)
     }
 
     /// Encodes the next chunk, puts what is to be stored at the front of `out` and answers its length. It
@@ -121,91 +172,4 @@ impl Encoder {
         self.number += 1;
         Ok(size)
     }
-}
-
-// Begins a gocryptfs file with a header.
-fn start_go<R: Randoms>(
-    keys: ContentKeys,
-    random: &mut R,
-    out: &mut ChunkBuf,
-) -> Result<Begun, EncodeFault>
-    requires { keys.layout ≡ Layout.Go }
-    ensures header { IfOk result (λ b. HasBegun keys (R.left random.old) (R.left random.new) b.encoder (take b.length out.new)) }
-    ensures length { IfOk result (λ b. b.length ≡ GO_HEADER) }
-    ensures begun { IfOk result (λ b. b.encoder ≡ begun keys b.encoder.header) }
-    ensures buffer { OnOk result (length out.new ≡ CHUNK_BUFFER_SIZE) }
-    ensures fault { IfErr result (DrawFails (format_of keys) 16 (R.left random.old) (R.left random.new) (R.faults random.old) (R.faults random.new)) }
-    ensures counted { IsCounted (R.faults random.old) (R.faults random.new) }
-{
-    let id = draw_some(random)?;
-    out.put_front(&go_header(&id));
-    let told = Told::Go(keys.gcm(), id);
-    Ok(Begun {
-        encoder: Encoder {
-            keys,
-            told,
-            number: 0,
-        },
-        length: GO_HEADER,
-    })
-}
-
-// Begins a Cryptomator file with SIV_GCM.
-fn start_cm<R: Randoms>(
-    keys: ContentKeys,
-    random: &mut R,
-    out: &mut ChunkBuf,
-) -> Result<Begun, EncodeFault>
-    requires { keys.layout ≡ Layout.CmGcm }
-    ensures header { IfOk result (λ b. HasBegun keys (R.left random.old) (R.left random.new) b.encoder (take b.length out.new)) }
-    ensures length { IfOk result (λ b. b.length ≡ CM_HEADER) }
-    ensures begun { IfOk result (λ b. b.encoder ≡ begun keys b.encoder.header) }
-    ensures buffer { OnOk result (length out.new ≡ CHUNK_BUFFER_SIZE) }
-    ensures fault { IfErr result (DrawFails (format_of keys) 44 (R.left random.old) (R.left random.new) (R.faults random.old) (R.faults random.new)) }
-    ensures counted { IsCounted (R.faults random.old) (R.faults random.new) }
-{
-    draws_compose();
-    let nonce = draw::<12, R>(random)?;
-    let key = draw::<32, R>(random)?;
-    let plain = new_plain(&key);
-    let length = out.seal(&keys.gcm(), &[], &nonce, &plain);
-    let told = Told::CmGcm(Gcm::new(Key256::new(&key)), nonce);
-    Ok(Begun {
-        encoder: Encoder {
-            keys,
-            told,
-            number: 0,
-        },
-        length,
-    })
-}
-
-// Begins a Cryptomator file with SIV_CTRMAC.
-fn start_ctr<R: Randoms>(
-    keys: ContentKeys,
-    random: &mut R,
-    out: &mut ChunkBuf,
-) -> Result<Begun, EncodeFault>
-    requires { keys.layout ≡ Layout.CmCtr }
-    ensures header { IfOk result (λ b. HasBegun keys (R.left random.old) (R.left random.new) b.encoder (take b.length out.new)) }
-    ensures length { IfOk result (λ b. b.length ≡ CTR_HEADER) }
-    ensures begun { IfOk result (λ b. b.encoder ≡ begun keys b.encoder.header) }
-    ensures buffer { OnOk result (length out.new ≡ CHUNK_BUFFER_SIZE) }
-    ensures fault { IfErr result (DrawFails (format_of keys) 48 (R.left random.old) (R.left random.new) (R.faults random.old) (R.faults random.new)) }
-    ensures counted { IsCounted (R.faults random.old) (R.faults random.new) }
-{
-    draws_compose();
-    let nonce = draw::<16, R>(random)?;
-    let key = draw::<32, R>(random)?;
-    let plain = new_plain(&key);
-    let length = out.seal_tagged(&keys.cipher(), keys.mac(), &[], &nonce, &plain);
-    let told = Told::CmCtr(Key256::new(&key), nonce);
-    Ok(Begun {
-        encoder: Encoder {
-            keys,
-            told,
-            number: 0,
-        },
-        length,
-    })
 }

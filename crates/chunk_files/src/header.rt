@@ -1,17 +1,17 @@
 //! Headers, read and made.
 
-ghost use Rattle.std.specs.Prelude.{◌≡◌, ℕ, List, [], OnErr, false, take, drop, length};
+ghost use Rattle.std.specs.Prelude.{◌≡◌, ℕ, List, [], OnErr, drop, length};
 ghost use Rattle.chunk_files.specs.Gocryptfs.{go_header_of, read_go_header};
 ghost use Rattle.chunk_files.specs.CryptomatorCtr.{read_ctr_header};
 ghost use Rattle.chunk_files.specs.CryptomatorGcm.{new_plain, read_cm_header};
-ghost use Rattle.chunk_files.specs.Keys.{format_by, format_of};
-ghost use Rattle.chunk_files.specs.Told.{Suits, file_in, header_of, header_or_fault, layout_of};
+ghost use Rattle.chunk_files.specs.Keys.{format_of};
+ghost use Rattle.chunk_files.specs.Told.{Suits, header_of, header_or_fault};
 
 use crate::fault::ChunkFault;
 use crate::keys::ContentKeys;
 use crate::sealed::open_text;
 use crate::tagged::{is_long_tag_right, restore_text};
-use crate::told::Told;
+use crate::told::{CtrTold, GcmTold, Told};
 use crate::zeros::all_zero;
 use aes_lanes::Key256;
 use gcm_mode::Gcm;
@@ -25,53 +25,26 @@ pub const CTR_HEADER: usize = 88;
 
 const RESERVED: usize = 8;
 
-// Puts what a whole header tells where the vault's key stands, or answers its first fault.
+// Puts what a whole header tells in its place, or answers its first fault.
 pub fn read_header(keys: &ContentKeys, header: &[u8], told: &mut Told) -> Result<(), ChunkFault>
     requires size { length header.now ≡ (format_of keys.now).header_size }
-    requires suits { Suits false told.old keys.now }
+    requires suits { Suits told.old keys.now }
     ensures told { header_or_fault result (header_of told.new) ≡ (format_of keys.now).read_header header.now }
     ensures unchanged { OnErr result (told.new ≡ told.old) }
-    ensures suits { layout_of told.new ≡ layout_of told.old }
-{
-    put_key(keys, header, told)?;
-    put_file(header, told);
-    Ok(())
-}
-
-// Puts the key of the chunks behind a header in the place of the vault's, or answers the header's first fault.
-fn put_key(keys: &ContentKeys, header: &[u8], told: &mut Told) -> Result<(), ChunkFault>
-    requires size { length header.now ≡ (format_of keys.now).header_size }
-    requires suits { Suits false told.old keys.now }
-    ensures told { header_or_fault result (record { key = (header_of told.new).key; file = file_in keys.now.layout header.now })
-        ≡ (format_of keys.now).read_header header.now }
-    ensures unchanged { OnErr result (told.new ≡ told.old) }
-    ensures suits { layout_of told.new ≡ layout_of told.old }
+    ensures suits { Suits told.new keys.now }
 {
     match told {
-        Told::Go(_, _) => check_go(header),
-        Told::CmGcm(gcm, _) => read_cm(gcm, header),
-        Told::CmCtr(key, _) => read_ctr(key, keys.mac(), header),
+        Told::Go(_, id) => read_go(id, header),
+        Told::CmGcm(file) => read_cm(file, header),
+        Told::CmCtr(file) => read_ctr(file, keys.mac(), header),
     }
 }
 
-// Puts the bytes that bind the chunks behind a header to their file in their place.
-fn put_file(header: &[u8], told: &mut Told)
-    requires { length header.now ≡ (format_by (layout_of told.old) [] []).header_size }
-    ensures file { header_of told.new ≡ record { key = (header_of told.old).key; file = file_in (layout_of told.old) header.now } }
-    ensures suits { layout_of told.new ≡ layout_of told.old }
-{
-    match told {
-        Told::Go(_, id) => id.copy_from_slice(&header[2..]),
-        Told::CmGcm(_, nonce) => nonce.copy_from_slice(&header[..12]),
-        Told::CmCtr(_, nonce) => nonce.copy_from_slice(&header[..16]),
-    }
-}
-
-// The chunks of gocryptfs have the vault's key.
 #[tactic(auto, unfolding(crate::specs::Gocryptfs::read_go_header))]
-fn check_go(header: &[u8]) -> Result<(), ChunkFault>
+fn read_go(id: &mut [u8; 16], header: &[u8]) -> Result<(), ChunkFault>
     requires { length header.now ≡ GO_HEADER }
-    ensures { (key : List ℕ) → header_or_fault result (record { key = key; file = drop 2 header.now }) ≡ read_go_header key header.now }
+    ensures told { (key : List ℕ) → header_or_fault result (record { key = key; file = id.new }) ≡ read_go_header key header.now }
+    ensures unchanged { OnErr result (id.new ≡ id.old) }
 {
     let version = u16::from_be_bytes([header[0], header[1]]);
     if version != 2 {
@@ -80,35 +53,40 @@ fn check_go(header: &[u8]) -> Result<(), ChunkFault>
     if all_zero(&header[2..]) {
         return Err(ChunkFault::ZeroId);
     }
+    id.copy_from_slice(&header[2..]);
     Ok(())
 }
 
 #[tactic(auto, unfolding(crate::specs::CryptomatorGcm::read_cm_header, crate::specs::Sealed::opened_text))]
-fn read_cm(gcm: &mut Gcm, header: &[u8]) -> Result<(), ChunkFault>
+fn read_cm(file: &mut GcmTold, header: &[u8]) -> Result<(), ChunkFault>
     requires { length header.now ≡ CM_HEADER }
-    ensures told { header_or_fault result (record { key = gcm.new; file = take 12 header.now }) ≡ read_cm_header gcm.old header.now }
-    ensures unchanged { OnErr result (gcm.new ≡ gcm.old) }
+    ensures told { header_or_fault result (record { key = file.new.chunks; file = file.new.nonce }) ≡ read_cm_header file.old.vault header.now }
+    ensures unchanged { OnErr result (file.new ≡ file.old) }
+    ensures vault { file.new.vault ≡ file.old.vault }
 {
     let mut plain = [0; 40];
-    if !open_text(gcm, &[], 12, header, &mut plain) {
+    if !open_text(&file.vault, &[], 12, header, &mut plain) {
         return Err(ChunkFault::HeaderTag);
     }
-    *gcm = Gcm::new(content_key(&plain));
+    file.chunks = Gcm::new(content_key(&plain));
+    file.nonce.copy_from_slice(&header[..12]);
     Ok(())
 }
 
 #[tactic(auto, unfolding(crate::specs::CryptomatorCtr::read_ctr_header, crate::specs::Tagged::opened_tagged))]
-fn read_ctr(key: &mut Key256, mac: &[u8; 32], header: &[u8]) -> Result<(), ChunkFault>
+fn read_ctr(file: &mut CtrTold, mac: &[u8; 32], header: &[u8]) -> Result<(), ChunkFault>
     requires { length header.now ≡ CTR_HEADER }
-    ensures told { header_or_fault result (record { key = key.new; file = take 16 header.now }) ≡ read_ctr_header key.old mac.now header.now }
-    ensures unchanged { OnErr result (key.new ≡ key.old) }
+    ensures told { header_or_fault result (record { key = file.new.chunks; file = file.new.nonce }) ≡ read_ctr_header file.old.vault mac.now header.now }
+    ensures unchanged { OnErr result (file.new ≡ file.old) }
+    ensures vault { file.new.vault ≡ file.old.vault }
 {
     if !is_long_tag_right(mac, &[], header) {
         return Err(ChunkFault::HeaderTag);
     }
     let mut plain = [0; 40];
-    restore_text(key, header, &mut plain);
-    *key = content_key(&plain);
+    restore_text(&file.vault, header, &mut plain);
+    file.chunks = content_key(&plain);
+    file.nonce.copy_from_slice(&header[..16]);
     Ok(())
 }
 

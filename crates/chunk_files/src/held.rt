@@ -34,6 +34,14 @@ impl Held {
         Ok(Held { bytes, start: 0 })
     }
 
+    // Holds nothing.
+    pub fn clear(&mut self)
+        ensures { self.new ≡ [] }
+    {
+        self.bytes.clear();
+        self.start = 0;
+    }
+
     pub fn len(&self) -> usize
         ensures count { result ≡ length self.now }
         ensures most { result ≤ CHUNK_BUFFER_SIZE }

@@ -1,8 +1,8 @@
-ghost use Rattle.std.specs.Prelude.{◌≡◌, ◌<◌, ◌≤◌, ◌==◌, ◌&&◌, List, ℕ};
+ghost use Rattle.std.specs.Prelude.{◌≡◌, ◌↔◌, ◌<◌, ◌≤◌, ◌==◌, ◌&&◌, IsTrue, List, ℕ};
 ghost use Rattle.chunk_files.specs.Format.{stored_size};
 ghost use Rattle.chunk_files.specs.Keys.{Keys, cm_ctr_keys, cm_gcm_keys, format_by, full_size, go_keys};
 
-use aes_lanes::Key256;
+use aes_lanes::{Key256, same_bytes};
 use gcm_mode::Gcm;
 use std::marker::Model;
 
@@ -146,6 +146,16 @@ impl ContentKeys {
         ensures { result ≡ self.now.layout }
     {
         self.layout
+    }
+
+    /// Whether these are the same keys, of the same layout.
+    pub fn is_same(&self, other: &ContentKeys) -> bool
+        ensures { IsTrue result ↔ (self.now ≡ other.now) }
+    {
+        let has_mac = self.layout == Layout::CmCtr;
+        self.layout == other.layout
+            && same_bytes(&self.key, &other.key)
+            && (!has_mac || same_bytes(&self.mac, &other.mac))
     }
 
     // The vault's key, expanded.

@@ -12,6 +12,7 @@ mod header;
 mod held;
 pub mod keys;
 pub mod laws;
+mod new_header;
 mod sealed;
 pub mod step;
 mod tagged;

@@ -1,6 +1,6 @@
 //! What a header tells of the chunks behind it.
 
-ghost use Rattle.std.specs.Prelude.{◌≡◌, ◌++◌, ◌≤◌, IfOk, false, length, take};
+ghost use Rattle.std.specs.Prelude.{◌≡◌, ◌++◌, ◌≤◌, IfOk, length, take};
 ghost use Rattle.std.specs.Int.{to_be_bytes, w64};
 ghost use Rattle.chunk_files.specs.Told.{Suits};
 
@@ -9,35 +9,50 @@ use aes_lanes::Key256;
 use gcm_mode::Gcm;
 use std::alloc::{AllocError, Global};
 
-/// What a header tells, by its layout: the cipher of the chunks, under the key that seals them, and the bytes
-/// that bind them to their file, which are the file's id or the header's nonce.
+/// What a header tells, by its layout, beside the vault's key, under which headers are opened and sealed: the
+/// cipher of the chunks, and the bytes that bind them to their file, which are the file's id or the header's
+/// nonce. The chunks of gocryptfs have the vault's key.
 #[derive(Drop)]
 pub enum Told {
     Go(Gcm, [u8; 16]),
-    CmGcm(Gcm, [u8; 12]),
-    CmCtr(Key256, [u8; 16]),
+    CmGcm(GcmTold),
+    CmCtr(CtrTold),
 }
 
-// The vault's key, under which a header is opened, where what it tells is to stand.
-pub fn untold(alloc: Global, keys: &ContentKeys) -> Result<Box<Told>, AllocError>
-    ensures { IfOk result (λ told. Suits false told.value keys.now) }
+#[derive(Drop)]
+pub struct GcmTold {
+    pub vault: Gcm,
+    pub chunks: Gcm,
+    pub nonce: [u8; 12],
+}
+
+#[derive(Drop)]
+pub struct CtrTold {
+    pub vault: Key256,
+    pub chunks: Key256,
+    pub nonce: [u8; 16],
+}
+
+// The vault's key, expanded, also where a header's is to stand.
+pub fn untold(keys: &ContentKeys) -> Told
+    ensures { Suits result keys.now }
 {
     match keys.layout() {
-        Layout::Go => boxed(alloc, Told::Go(keys.gcm(), [0; 16])),
-        Layout::CmGcm => boxed(alloc, Told::CmGcm(keys.gcm(), [0; 12])),
-        Layout::CmCtr => untold_ctr(alloc, keys),
+        Layout::Go => Told::Go(keys.gcm(), [0; 16]),
+        Layout::CmGcm => Told::CmGcm(GcmTold {
+            vault: keys.gcm(),
+            chunks: keys.gcm(),
+            nonce: [0; 12],
+        }),
+        Layout::CmCtr => Told::CmCtr(CtrTold {
+            vault: keys.cipher(),
+            chunks: keys.cipher(),
+            nonce: [0; 16],
+        }),
     }
 }
 
-// Apart, since a function clears its locals when it begins.
-fn untold_ctr(alloc: Global, keys: &ContentKeys) -> Result<Box<Told>, AllocError>
-    requires { keys.now.layout ≡ Layout.CmCtr }
-    ensures { IfOk result (λ told. Suits false told.value keys.now) }
-{
-    boxed(alloc, Told::CmCtr(keys.cipher(), [0; 16]))
-}
-
-fn boxed(alloc: Global, told: Told) -> Result<Box<Told>, AllocError>
+pub fn boxed(alloc: Global, told: Told) -> Result<Box<Told>, AllocError>
     ensures { IfOk result (λ boxed. boxed.value ≡ told) }
 {
     match Box::new(alloc, told) {

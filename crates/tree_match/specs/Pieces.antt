@@ -1,17 +1,18 @@
 -- Words of private contracts: contents that are compared piece by piece, and plans of which the front was passed.
-use Rattle.std.specs.Prelude.{ℕ, ◌+◌, ◌-◌, ◌*◌, List, [], ◌∷◌, ◌++◌, length, if◌then◌else◌, Option, Some, None}
+use Rattle.std.specs.Prelude.{◌≡◌, ℕ, ◌+◌, ◌-◌, ◌*◌, List, [], ◌∷◌, ◌++◌, length, if◌then◌else◌, Option, Some, None}
 use Rattle.std.specs.List.{concat}
 use Rattle.std.specs.Ordering.{match_ordering}
 use Rattle.chunk_files.specs.Decoding.{Decoding}
+use Rattle.chunk_files.specs.Keys.{Keys}
 use Rattle.chunk_files.specs.Reading.{Ending}
 use Rattle.folder_spec.specs.Path.{Path}
 use Rattle.plain_tree.specs.Names as plain
 use Rattle.plain_tree.specs.Order.{path_cmp, path_eq}
-use Rattle.vault_read.specs.Contents.{content_limit, still}
+use Rattle.vault_read.specs.Contents.{Suits, content_limit, limited_reading, still}
 use Rattle.vault_faults.specs.declared.fault.CatFault.{CatFault}
 use Rattle.vault_faults.specs.declared.fault.CatFault.TheVariants as cat
 use Rattle.vault_spec.specs.Plan.{Planned}
-use Rattle.tree_match.specs.Comparing.{Content, IsFault}
+use Rattle.tree_match.specs.Comparing.{Content, IsFault, content_of}
 use Rattle.tree_match.specs.declared.answer.MatchFault.{MatchFault}
 use Rattle.tree_match.specs.declared.answer.MatchFault.TheVariants.{Damaged, Limit, Failed, NoMemory}
 
@@ -33,6 +34,12 @@ pub record Opened : Type 0 where
 -- what a file with these bytes has still to be compared
 abbrev pub uncompared : Opened → List ℕ → Content
 uncompared s file = record { at = s.at; bytes = s.ahead ++ concat (still s.decoding file).chunks; ending = (still s.decoding file).ending }
+
+-- nothing was read yet of the content file at a path, of a vault with these keys
+pub record IsFresh (vault_keys : Keys) (path : Path) (s : Opened) : Type 0 where
+  pub at : s.at ≡ path
+  pub all : (file : List ℕ) → uncompared s file ≡ content_of path (limited_reading vault_keys file)
+  pub suits : (file : List ℕ) → Suits s.decoding file
 
 -- no byte, and this ending
 abbrev pub nothing_before : Path → Ending → Content

@@ -1,14 +1,13 @@
 //! Comparing two contents piece by piece.
 ghost use Rattle.std.specs.Prelude.{◌≡◌, ◌↔◌, ◌≤◌, ◌<◌, ◌-◌, [], ℕ, List, IfOk, IfErr, OnOk, IsTrue, Ok, Err, length, take, drop};
 ghost use Rattle.port_model.specs.Counts.{CountRose};
-ghost use Rattle.chunk_files.specs.Reading.{Whole, Ending};
-ghost use Rattle.folder_spec.specs.Path.{Path};
+ghost use Rattle.chunk_files.specs.Reading.{Whole};
 ghost use Rattle.folder_spec.specs.View.{View, FileOf};
 ghost use Rattle.folder_spec.specs.Seen.{IfSeen, IsSeen, ShowsFile};
 ghost use Rattle.vault_spec.specs.Vault.{format_of};
-ghost use Rattle.vault_read.specs.Contents.{Suits, IsBeingRead, limited_reading};
-ghost use Rattle.tree_match.specs.Comparing.{Answers, IsFault, compared, content_at, content_of};
-ghost use Rattle.tree_match.specs.Pieces.{bytes_left, nothing_before, uncompared, CanFault};
+ghost use Rattle.vault_read.specs.Contents.{IsBeingRead};
+ghost use Rattle.tree_match.specs.Comparing.{Answers, IsFault, compared, content_at};
+ghost use Rattle.tree_match.specs.Pieces.{IsFresh, bytes_left, nothing_before, uncompared, CanFault};
 
 use crate::answer::MatchFault;
 use chunk_files::ChunkBuf;
@@ -40,9 +39,7 @@ impl Model for Opened {
 impl Opened {
     // The content of the file at a path, of which nothing was read.
     fn start(alloc: Global, vault: &Vault, at: &FPath) -> Result<Opened, AllocError>
-        ensures place { IfOk result (λ content. content.at ≡ at.now) }
-        ensures all { IfOk result (λ content. (file : List ℕ) → uncompared content file ≡ content_of at.now (limited_reading (format_of vault.now.vault).content file)) }
-        ensures suits { IfOk result (λ content. (file : List ℕ) → Suits content.decoding file) }
+        ensures { IfOk result (λ content. IsFresh (format_of vault.now.vault).content at.now content) }
     {
         let reader = ContentReader::start(alloc, vault, at)?;
         let chunk = ChunkBuf::new(alloc)?;
@@ -52,6 +49,16 @@ impl Opened {
             start: 0,
             end: 0,
         })
+    }
+
+    // Goes on with the file at another path, of which nothing was read.
+    fn turn_to(&mut self, vault: &Vault, at: &FPath) -> Result<(), AllocError>
+        ensures { OnOk result (IsFresh (format_of vault.now.vault).content at.now self.new) }
+    {
+        self.reader.turn_to(vault, at)?;
+        self.start = 0;
+        self.end = 0;
+        Ok(())
     }
 
     // The bytes that were read and not compared.
@@ -98,10 +105,43 @@ impl Opened {
     }
 }
 
-// Whether the content files at two paths of the folder, each of a vault, have the same content.
+// Two content files that are compared, each of a vault.
+#[derive(Drop)]
+pub(crate) struct Pair {
+    one: Opened,
+    other: Opened,
+}
+
+impl Pair {
+    // The content files at two paths, of which nothing was read. Where there is a pair it goes on with these.
+    fn at(
+        alloc: Global,
+        kept: Option<Pair>,
+        a: &Vault,
+        a_at: &FPath,
+        b: &Vault,
+        b_at: &FPath,
+    ) -> Result<Pair, AllocError>
+        ensures one { IfOk result (λ pair. IsFresh (format_of a.now.vault).content a_at.now pair.one) }
+        ensures other { IfOk result (λ pair. IsFresh (format_of b.now.vault).content b_at.now pair.other) }
+    {
+        let Some(mut pair) = kept else {
+            let one = Opened::start(alloc, a, a_at)?;
+            let other = Opened::start(alloc, b, b_at)?;
+            return Ok(Pair { one, other });
+        };
+        pair.one.turn_to(a, a_at)?;
+        pair.other.turn_to(b, b_at)?;
+        Ok(pair)
+    }
+}
+
+// Whether the content files at two paths of the folder, each of a vault, have the same content. What was opened for the files compared
+// before serves again.
 pub(crate) fn same_contents<F: Folder>(
     alloc: Global,
     folder: &mut F,
+    kept: &mut Option<Pair>,
     a: &Vault,
     a_at: &FPath,
     b: &Vault,
@@ -116,9 +156,10 @@ pub(crate) fn same_contents<F: Folder>(
     ensures grows { F.faults folder.old ≤ F.faults folder.new }
     ensures failed { result ≡ Err MatchFault.Failed → CountRose (F.faults folder.old) (F.faults folder.new) }
 {
-    let mut one = Opened::start(alloc, a, a_at)?;
-    let mut other = Opened::start(alloc, b, b_at)?;
-    compare(folder, &mut one, &mut other)
+    let mut pair = Pair::at(alloc, kept.take(), a, a_at, b, b_at)?;
+    let same = compare(folder, &mut pair.one, &mut pair.other);
+    *kept = Some(pair);
+    same
 }
 
 // Compares what is left of two contents from the front.

@@ -1,5 +1,5 @@
 //! Whether a vault holds all items of another.
-ghost use Rattle.std.specs.Prelude.{◌≡◌, ◌≤◌, ℕ, List, IfOk, IfErr, Ok, Err, Option, Some, option_copied};
+ghost use Rattle.std.specs.Prelude.{◌≡◌, ◌≤◌, IfOk, IfErr, Ok, Err, Option, Some, option_copied};
 ghost use Rattle.port_model.specs.Counts.{CountRose};
 ghost use Rattle.folder_spec.specs.View.{View};
 ghost use Rattle.folder_spec.specs.Seen.{IfSeen, IsSeen, ShowsFile};
@@ -8,11 +8,11 @@ ghost use Rattle.vault_spec.specs.Plan.{Planned};
 ghost use Rattle.vault_spec.specs.Vault.{format_of};
 ghost use Rattle.vault_walk.specs.Survey.{IsOrdered};
 ghost use Rattle.tree_match.specs.Comparing.{Answers};
-ghost use Rattle.tree_match.specs.Matching.{IsMatchable, first_further, held_by, item_with, matched};
+ghost use Rattle.tree_match.specs.Matching.{IsMatchable, first_further, held_by, matched};
 ghost use Rattle.tree_match.specs.Pieces.{CanFault, first_with, from_path};
 
 use crate::answer::{How, Match, MatchFault};
-use crate::comparing::same_contents;
+use crate::comparing::{Pair, same_contents};
 use folder_model::Folder;
 use plain_tree::{NodeKind, PlainPath};
 use std::alloc::{AllocError, Global};
@@ -49,20 +49,23 @@ pub fn holds_all<F: Folder>(
     let items = a_plan.items.as_slice();
     let others = b_plan.items.as_slice();
     let mut rest = others;
+    let mut kept = None;
     for item in items {
         rest = from_path(rest, &item.path);
         let other = first_at(rest, &item.path);
-        if let Some(how) = difference(alloc, folder, a, item, b, other)? {
+        if let Some(how) = difference(alloc, folder, &mut kept, a, item, b, other)? {
             return Ok(Match::Differs(item.path.copy()?, how));
         }
     }
     Ok(further(items, others)?)
 }
 
-// How an item of a vault differs from the item of another that has its path, if it does.
+// How an item of a vault differs from the item of another that has its path, if it does. What was opened for the items before serves
+// again.
 fn difference<F: Folder>(
     alloc: Global,
     folder: &mut F,
+    kept: &mut Option<Pair>,
     a: &Vault,
     item: &PlanItem,
     b: &Vault,
@@ -83,7 +86,7 @@ fn difference<F: Folder>(
     match (item.node, other.node) {
         (NodeKind::Dir, NodeKind::Dir) => Ok(None),
         (NodeKind::File, NodeKind::File) => {
-            if same_contents(alloc, folder, a, &item.at, b, &other.at)? {
+            if same_contents(alloc, folder, kept, a, &item.at, b, &other.at)? {
                 Ok(None)
             } else {
                 Ok(Some(How::Content))

@@ -3,12 +3,14 @@ use Rattle.std.proofs.Common.{◌≡◌, ◌≢◌, ℕ, zero, suc, List, Option
 use Rattle.chunk_files.specs.declared.fault.ChunkFault.{ChunkFault}
 use Rattle.chunk_files.specs.Reading.{Ending, Whole, Wanting, Faulty, Reading}
 use Rattle.folder_spec.specs.Path.{Path}
-use Rattle.vault_read.specs.Contents.{Gives, GivesBytes, IsReaderFault, Passes, Stops}
+use Rattle.folder_spec.specs.View.{View}
+use Rattle.vault_read.specs.Contents.{Gives, GivesBytes, IsReaderFault, Passes, Reader, Stops, limited_reading, still}
+use Rattle.vault_spec.specs.Format.{Format}
 use Rattle.vault_faults.specs.declared.fault.Limit.{Limit}
 use Rattle.vault_faults.specs.declared.fault.Limit.TheVariants.{Depth, Items, Length, Input}
 use Rattle.vault_faults.specs.declared.fault.CatFault.{CatFault}
 use Rattle.vault_faults.specs.declared.fault.CatFault.TheVariants as cat
-use Rattle.vault_check.specs.Contents.{IsContentFault, ended_by}
+use Rattle.vault_check.specs.Contents.{EndsAs, IsContentFault, StillEnds, ended_by}
 use Rattle.vault_check.specs.declared.fault.CheckFault.{CheckFault}
 use Rattle.vault_check.specs.declared.fault.CheckFault.TheVariants as check
 
@@ -93,3 +95,8 @@ answers_fault cat.Failed at answer is reader = subst (λ a. IfErr a IsContentFau
 answers_fault cat.NoMemory at answer is reader = subst (λ a. IfErr a IsContentFault) (sym is) tt
 answers_fault (cat.Find fault) at answer is reader = absurd reader
 answers_fault cat.Sink at answer is reader = absurd reader
+
+-- a content file of which nothing was read ends as its content does
+pub ends_of : (f : Format) (v : View) (at : Path) (reader : Reader) (ending : Ending) → reader.at ≡ at
+    → ((bytes : List ℕ) → still reader.decoding bytes ≡ limited_reading f.content bytes) → StillEnds v reader ending → EndsAs f v at ending
+ends_of f v at reader ending is same ends = (ends.0, ap v (sym is) ∙ ends.1, ap (λ (r : Reading). r.ending) (sym (same ends.0)) ∙ ends.2)

@@ -11,7 +11,7 @@ use Rattle.folder_spec.specs.Seen.{IfSeen}
 use Rattle.folder_spec.specs.View.{View, FileOf}
 use Rattle.plain_tree.specs.declared.NodeKind.{NodeKind}
 use Rattle.plain_tree.specs.declared.NodeKind.TheVariants as node
-use Rattle.vault_read.specs.Contents.{limited_reading}
+use Rattle.vault_read.specs.Contents.{Reader, limited_reading, still}
 use Rattle.vault_spec.specs.Findings.{finding_of, number_of}
 use Rattle.vault_spec.specs.Format.{Format}
 use Rattle.vault_spec.specs.Plan.{Planned}
@@ -30,6 +30,10 @@ ending_of (Some fault) = Faulty fault
 -- the content file there ends so
 abbrev pub EndsAs : Format → View → Path → Ending → Type 0
 EndsAs f v at ending = (bytes : List ℕ) × (v at ≡ FileOf bytes) × ((limited_reading f.content bytes).ending ≡ ending)
+
+-- what is still to be read of a file ends so
+abbrev pub StillEnds : View → Reader → Ending → Type 0
+StillEnds v reader ending = (bytes : List ℕ) × (v reader.at ≡ FileOf bytes) × ((still reader.decoding bytes).ending ≡ ending)
 
 -- the fault of a content of which reading ends by this, or why it isn't known
 abbrev pub ended_by : CatFault → Result (Option ChunkFault) CheckFault

@@ -1,13 +1,14 @@
 //! Reading the contents of a vault for their faults.
-ghost use Rattle.std.specs.Prelude.{◌≡◌, ◌≤◌, ◌++◌, IfOk, IfErr, OnOk, Err, Contains, option_to_list};
+ghost use Rattle.std.specs.Prelude.{◌≡◌, ◌≤◌, ◌++◌, ℕ, List, IfOk, IfErr, OnOk, Err, Contains, option_to_list};
 ghost use Rattle.chunk_files.specs.Reading.{Wanting};
 ghost use Rattle.folder_spec.specs.Path.{Path};
 ghost use Rattle.folder_spec.specs.Seen.{IfSeen, ShowsFile};
 ghost use Rattle.port_model.specs.Counts.{CountRose};
 ghost use Rattle.vault_faults.specs.declared.fault.Limit.TheVariants.{Length};
+ghost use Rattle.vault_read.specs.Contents.{IsBeingRead, Suits, limited_reading, still};
 ghost use Rattle.vault_spec.specs.Findings.{finding_of, number_of};
 ghost use Rattle.vault_spec.specs.Vault.{format_of};
-ghost use Rattle.vault_check.specs.Contents.{AreContentsOf, EndsAs, HasRead, IsContentFault, content_of, ended_by, ending_of, told_damage};
+ghost use Rattle.vault_check.specs.Contents.{AreContentsOf, EndsAs, HasRead, IsContentFault, StillEnds, content_of, ended_by, ending_of, told_damage};
 
 use crate::fault::CheckFault;
 use crate::order::paths_in_order;
@@ -59,8 +60,9 @@ pub(crate) fn damaged_contents<F: Folder>(
 {
     let mut chunk = ChunkBuf::new(alloc)?;
     let mut damaged = Vec::new(alloc);
+    let mut last = None;
     for at in contents {
-        let fault = fault_of(alloc, folder, vault, at, &mut chunk)?;
+        let fault = fault_of(alloc, folder, vault, at, &mut last, &mut chunk)?;
         add_damage(&mut damaged, at, fault)?;
     }
     Ok(damaged)
@@ -98,12 +100,13 @@ fn number_of(fault: ChunkFault) -> u8
     }
 }
 
-// The first fault of a content file, if it has one.
+// The first fault of a content file, if it has one. The last reader goes on with it.
 fn fault_of<F: Folder>(
     alloc: Global,
     folder: &mut F,
     vault: &Vault,
     at: &FPath,
+    last: &mut Option<ContentReader>,
     chunk: &mut ChunkBuf,
 ) -> Result<Option<ChunkFault>, CheckFault>
     requires { IfSeen (F.told folder.old) (λ v. ShowsFile v at.now) }
@@ -115,7 +118,45 @@ fn fault_of<F: Folder>(
     ensures grows { F.faults folder.old ≤ F.faults folder.new }
     ensures failed { result ≡ Err CheckFault.Failed → CountRose (F.faults folder.old) (F.faults folder.new) }
 {
-    let mut reader = ContentReader::start(alloc, vault, at)?;
+    let mut reader = reader_at(alloc, vault, at, last.take())?;
+    let fault = first_fault(folder, &mut reader, chunk);
+    *last = Some(reader);
+    fault
+}
+
+// A reader of a content file: the last one, which goes on with it, or a new one.
+fn reader_at(
+    alloc: Global,
+    vault: &Vault,
+    at: &FPath,
+    last: Option<ContentReader>,
+) -> Result<ContentReader, AllocError>
+    ensures at { IfOk result (λ reader. reader.at ≡ at.now) }
+    ensures still { IfOk result (λ reader. (bytes : List ℕ) → still reader.decoding bytes ≡ limited_reading (format_of vault.now.vault).content bytes) }
+    ensures suits { IfOk result (λ reader. (bytes : List ℕ) → Suits reader.decoding bytes) }
+{
+    let Some(mut reader) = last else {
+        return ContentReader::start(alloc, vault, at);
+    };
+    reader.turn_to(vault, at)?;
+    Ok(reader)
+}
+
+// The first fault of what is still to be read of a content file, if it has one.
+fn first_fault<F: Folder>(
+    folder: &mut F,
+    reader: &mut ContentReader,
+    chunk: &mut ChunkBuf,
+) -> Result<Option<ChunkFault>, CheckFault>
+    requires { IfSeen (F.told folder.old) (λ v. IsBeingRead v reader.old.at reader.old.decoding) }
+    ensures told { F.told folder.new ≡ F.told folder.old }
+    ensures ending { IfOk result (λ fault. IfSeen (F.told folder.old) (λ v. StillEnds v reader.old (ending_of fault))) }
+    ensures length { (named : Path) → result ≡ Err (CheckFault.Limit (Length named)) → (named ≡ reader.old.at)
+        × (IfSeen (F.told folder.old) (λ v. StillEnds v reader.old Wanting)) }
+    ensures fault { IfErr result (λ fault. IsContentFault fault) }
+    ensures grows { F.faults folder.old ≤ F.faults folder.new }
+    ensures failed { result ≡ Err CheckFault.Failed → CountRose (F.faults folder.old) (F.faults folder.new) }
+{
     'chunks: loop {
         match reader.next(folder, chunk) {
             Ok(0) => return Ok(None),

@@ -44,6 +44,14 @@ impl Held {
         })
     }
 
+    // Holds no bytes.
+    pub(crate) fn clear(&mut self)
+        ensures { self.new ≡ [] }
+    {
+        self.start = 0;
+        self.end = 0;
+    }
+
     // Holds the next chunk of a file that is being read, where no bytes are held.
     pub(crate) fn refill<F: Folder>(
         &mut self,

@@ -1,15 +1,17 @@
 //! The content of a file of a vault.
-ghost use Rattle.std.specs.Prelude.{◌≡◌, ◌≤◌, [], Some, None, IfOk, IfErr};
+ghost use Rattle.std.specs.Prelude.{◌≡◌, ◌≤◌, [], Some, None, IfOk, IfErr, OnOk, OnErr};
+ghost use Rattle.chunk_files.specs.Decoding.{started};
 ghost use Rattle.folder_spec.specs.View.{Found};
+ghost use Rattle.vault_spec.specs.Vault.{format_of};
 ghost use Rattle.content_writing.specs.Content.{content_limit};
 ghost use Rattle.vault_contents.specs.Coming.{coming_read, held_in};
 
 use crate::held::Held;
 use chunk_files::ChunkBuf;
 use content_writing::{Content, PutFault};
-use folder_model::Folder;
+use folder_model::{FPath, Folder};
 use std::alloc::{AllocError, Global};
-use vault_read::ContentReader;
+use vault_read::{ContentReader, Vault};
 
 // The most bytes of a content, 2^40.
 const CONTENT_LIMIT: u64 = 1_099_511_627_776;
@@ -38,6 +40,21 @@ impl VaultContent {
             held: None,
             room: CONTENT_LIMIT,
         }
+    }
+
+    /// Goes on with the content of the file at a path of the folder, of a vault. It takes no memory but for the path.
+    pub fn turn_to(&mut self, vault: &Vault, at: &FPath) -> Result<(), AllocError>
+        ensures reads { OnOk result (path_of self.new ≡ Some at.now) }
+        ensures coming { OnOk result ((found : Found) → coming_of self.new found
+            ≡ coming_read (record { at = at.now; decoding = started (format_of vault.now.vault).content }) content_limit [] found) }
+        ensures unchanged { OnErr result (self.new ≡ self.old) }
+    {
+        self.reader.turn_to(vault, at)?;
+        if let Some(held) = &mut self.held {
+            held.clear();
+        }
+        self.room = CONTENT_LIMIT;
+        Ok(())
     }
 
     // The buffer, taken if there is none yet.

@@ -58,6 +58,20 @@ impl ContentReader {
         })
     }
 
+    /// Goes on with the content file at another path of the folder, of which nothing was read. It takes no memory but for the path. Of
+    /// the same vault its keys' tables serve again.
+    pub fn turn_to(&mut self, vault: &Vault, at: &FPath) -> Result<(), AllocError>
+        ensures reader { OnOk result (self.new ≡ record { at = at.now; decoding = started (format_of vault.now.vault).content }) }
+        ensures still { OnOk result ((bytes : List ℕ) → still self.new.decoding bytes ≡ limited_reading (format_of vault.now.vault).content bytes) }
+        ensures suits { OnOk result ((bytes : List ℕ) → Suits self.new.decoding bytes) }
+        ensures unchanged { OnErr result (self.new ≡ self.old) }
+    {
+        self.at = at.copy()?;
+        self.decoder.restart(vault.content_keys());
+        self.taken = 0;
+        Ok(())
+    }
+
     /// Puts the next chunk that has bytes at the front of `out`, and answers how many there are: 0 at the file's end. After the end,
     /// after a damaged chunk and past the limit of 2^40 bytes it answers the same again. After another fault it goes on.
     ///

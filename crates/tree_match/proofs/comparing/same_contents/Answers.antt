@@ -11,8 +11,8 @@ returns-clause-compares g c = λ v seen.
     let file_b = c.requires.b_file v seen in
     let x = file_a.0 in
     let y = file_b.0 in
-    let a = c.in_ok-one.ensures in
-    let b = c.in_ok-other.ensures in
+    let a = c.in_ok-pair.ensures.one in
+    let b = c.in_ok-pair.ensures.other in
     let content_a = a.all x ∙ ap (λ (f : Found). content_of c.args.a_at.now (limited_reading (format_of c.args.a.now.vault).content (bytes_found f))) (sym file_a.1) in
     let content_b = b.all y ∙ ap (λ (f : Found). content_of c.args.b_at.now (limited_reading (format_of c.args.b.now.vault).content (bytes_found f))) (sym file_b.1) in
-    subst (λ o. Answers o c.compare.result) (ap₂ compared content_a content_b) (c.compare.ensures.compares v seen x y (ap v a.place ∙ file_a.1) (ap v b.place ∙ file_b.1))
+    subst (λ o. Answers o c.compare-same.result) (ap₂ compared content_a content_b) (c.compare-same.ensures.compares v seen x y (ap v a.at ∙ file_a.1) (ap v b.at ∙ file_b.1))

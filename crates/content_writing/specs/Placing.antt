@@ -11,6 +11,7 @@ use Rattle.folder_spec.specs.Written.{HoldFronts}
 use Rattle.work_folder.specs.Entering.{IsReady}
 use Rattle.vault_spec.specs.Adding.{OpensAs, OpensWith}
 use Rattle.vault_spec.specs.Alike.{IsOrderly}
+use Rattle.vault_spec.specs.Anywhere.{KeepsEntered}
 use Rattle.vault_spec.specs.Findings.{IsClean}
 use Rattle.vault_spec.specs.Opens.{opened}
 use Rattle.content_writing.specs.Making.{Placing, Making, format, path_of, is_staged, is_elsewhere, StagesOrPlaces}
@@ -62,10 +63,11 @@ abbrev pub making_at : Placing → (View → Making) → State → Making
 making_at p making s0 = making (under p.vault.root (seen s0))
 
 -- What opens as a reader now sees it, by the answer: in any vault the item at its path after Ok, and all as before after a refusal of
--- the vault, of the content or of the random source; and in an orderly one all else as before. One in good order stays so.
+-- the vault, of the content or of the random source; and in an orderly one all else as before. One in good order stays so. After Ok what
+-- was entered is, in any vault.
 abbrev pub EndsAs : Placing → View → View → Result (Unit {0}) PutFault → Type 0
 EndsAs p v w (Ok _) = (opened (format p) w (path_of p) ≡ opens_as p.item) × (IsOrderly (format p) v → OpensWith (format p) v w (path_of p) (opens_as p.item))
-    × (IsClean (format p) v → IsOrderly (format p) v → StaysGood (format p) v w)
+    × (IsClean (format p) v → IsOrderly (format p) v → StaysGood (format p) v w) × KeepsEntered (format p) v w
 EndsAs p v w (Err puts.Failed) = IsOrderly (format p) v → OpensAs (format p) v w ⊎ OpensWith (format p) v w (path_of p) (opens_as p.item)
 EndsAs p v w (Err puts.NoMemory) = IsOrderly (format p) v → OpensAs (format p) v w ⊎ OpensWith (format p) v w (path_of p) (opens_as p.item)
 EndsAs p v w (Err (puts.Find fault)) = OpensAs (format p) v w

@@ -15,12 +15,12 @@ use Rattle.vault_spec.specs.Opens as opens
 use Rattle.vault_spec.specs.Reached.{Leads}
 use Rattle.vault_spec.specs.Alike.{IsNoItem, HasFolders, IsOrderly, IsLeaf, GainsItem}
 use Rattle.vault_spec.specs.Adding.{OpensAs, ComesAlone, NewItemsComeAlone}
-use Rattle.vault_spec.specs.Anywhere.{ComesAtLast, NewItemsComeAtLast}
+use Rattle.vault_spec.specs.Anywhere.{ComesAtLast, KeepsEntered, NewItemsComeAtLast}
 use Rattle.vault_spec.specs.Staying.{LoadsAlike, StaysVault, NewItemsStayVaults}
 use Rattle.vault_spec.proofs.Lawful.{IsLawful, SparesConfiguration}
 use Rattle.vault_spec.proofs.Steps.{along, gains_alike}
 use Rattle.vault_spec.proofs.Grafts.{reached_right}
-use Rattle.vault_spec.proofs.Places.{SparesAll, IsSide, side_looks, side_orderly, led_back, IsNew, Arrives, brings_item, comes_last, edited_folders, top_stays, still_leads}
+use Rattle.vault_spec.proofs.Places.{SparesAll, IsSide, side_looks, side_orderly, led_back, IsNew, Arrives, brings_item, comes_last, edited_folders, top_stays, still_entered, still_leads}
 use Rattle.vault_spec.proofs.Sides.{side_opens}
 use Rattle.vault_spec.proofs.Loading.{edited_loads}
 
@@ -66,12 +66,16 @@ opens_last f lawful first v front dir name item e last =
     ap (opened_at f (edited v e)) (along f (edited v e) (root_of f (edited v e)) dir leads.at front name leads.stands) ∙ last.arrives.opens
 
 comes_at_last : (f : Format) (lawful : IsLawful f) (first u v : View) (front : plain.Path) (dir : Directory) (name : List ℕ) (item : Opened) (edits : List Edit)
-    → OpensAs f u v → IsMade f lawful first v front dir name item edits → ComesAtLast f u v edits (front ++ name ∷ []) item
-comes_at_last f lawful first u v front dir name item [] as_before made = absurd made
-comes_at_last f lawful first u v front dir name item (e ∷ []) as_before made = opens_last f lawful first v front dir name item e made
-comes_at_last f lawful first u v front dir name item (e ∷ next ∷ edits) as_before made =
+    → OpensAs f u v → KeepsEntered f u v → IsMade f lawful first v front dir name item edits → ComesAtLast f u v edits (front ++ name ∷ []) item
+comes_at_last f lawful first u v front dir name item [] as_before entered made = absurd made
+comes_at_last f lawful first u v front dir name item (e ∷ []) as_before entered made = (
+  opens_last f lawful first v front dir name item e made,
+  λ path at d stands. still_entered f lawful v e made.new.rooted (ap v (sym made.new.place) ∙ made.new.free) made.spares path at d (entered path at d stands),
+)
+comes_at_last f lawful first u v front dir name item (e ∷ next ∷ edits) as_before entered made =
     let opens_then : OpensAs f u (edited v e) = side_opens f lawful v u e as_before made.0 in
-    (opens_then, comes_at_last f lawful first u (edited v e) front dir name item (next ∷ edits) opens_then made.1)
+    let entered_then : KeepsEntered f u (edited v e) = λ path at d stands. still_entered f lawful v e made.0.rooted made.0.free made.0.spares path at d (entered path at d stands) in
+    (opens_then, comes_at_last f lawful first u (edited v e) front dir name item (next ∷ edits) opens_then entered_then made.1)
 
 -- ---- the vault stays orderly
 
@@ -225,10 +229,10 @@ new_items_alone f lawful makes = record {
 pub new_items_at_last : (f : Format) (lawful : IsLawful f) → MakesItems f lawful → NewItemsComeAtLast f
 new_items_at_last f lawful makes = record {
   file = λ v front dir name bytes folders leads named none.
-      comes_at_last f lawful v v v front dir name (opened_file f.content (Some bytes)) (f.new_file v dir (f.stored dir.key name) bytes) (λ path. refl)
+      comes_at_last f lawful v v v front dir name (opened_file f.content (Some bytes)) (f.new_file v dir (f.stored dir.key name) bytes) (λ path. refl) (λ path at d stands. stands)
       (makes.file v front dir name bytes folders leads named none);
   directory = λ v front dir name key folders leads named is_key none.
-      comes_at_last f lawful v v v front dir name opens.Directory (f.new_directory v dir (f.stored dir.key name) key) (λ path. refl)
+      comes_at_last f lawful v v v front dir name opens.Directory (f.new_directory v dir (f.stored dir.key name) key) (λ path. refl) (λ path at d stands. stands)
       (makes.directory v front dir name key folders leads named is_key none);
 }
 

@@ -14,6 +14,7 @@ use Rattle.vault_spec.specs.Format.{Format, Directory, Item, Nothing, FileItem, 
 use Rattle.vault_spec.specs.Standing.{Standing, Absent, Strange, File, Dir, root_of, directory_with, standing, standing_from, entry_at, is_file_of, holds, holds_full, item_at, standing_of, standing_in}
 use Rattle.vault_spec.specs.Opens.{Opened, opened_at}
 use Rattle.vault_spec.specs.Adding.{OpensAs, OpensWith}
+use Rattle.vault_spec.specs.Anywhere.{KeepsEntered}
 use Rattle.vault_spec.specs.Reached.{Leads}
 use Rattle.vault_spec.specs.Alike.{IsNoItem, AreAlike, LooksAlike, IsLeaf, GainsItem, HasFolders, IsOrderly}
 use Rattle.vault_spec.proofs.Lawful.{IsLawful, SparesConfiguration}
@@ -112,13 +113,14 @@ way_from f lawful v e rooted free spares front (File a) (n ∷ rest) at dir is l
 way_from f lawful v e rooted free spares front (Strange a) (n ∷ rest) at dir is leads = cc
 way_from f lawful v e rooted free spares front Absent (n ∷ rest) at dir is leads = cc
 
+pub still_entered : (f : Format) (lawful : IsLawful f) (v : View) (e : Edit) → IsRooted f v → v e.at ≡ NoEntry → SparesAll f lawful v e.at → KeepsEntered f v (edited v e)
+still_entered f lawful v e rooted free spares path at dir stands =
+    ap (λ s. standing_from f (edited v e) s path) (sym (root_stays f lawful v e rooted free spares))
+    ∙ way_from f lawful v e rooted free spares [] (root_of f v) path at dir refl stands
+
 pub still_leads : (f : Format) (lawful : IsLawful f) (v : View) (e : Edit) → IsRooted f v → v e.at ≡ NoEntry → SparesAll f lawful v e.at
     → (path : plain.Path) (dir : Directory) → Leads f v path dir → Leads f (edited v e) path dir
-still_leads f lawful v e rooted free spares path dir leads = record {
-  at = leads.at;
-  stands = ap (λ s. standing_from f (edited v e) s path) (sym (root_stays f lawful v e rooted free spares))
-      ∙ way_from f lawful v e rooted free spares [] (root_of f v) path leads.at dir refl leads.stands;
-}
+still_leads f lawful v e rooted free spares path dir leads = record { at = leads.at; stands = still_entered f lawful v e rooted free spares path leads.at dir leads.stands }
 
 -- what stands under a name stays, where its entry isn't at the place
 step_stays : (f : Format) (lawful : IsLawful f) (v : View) (e : Edit) → IsOrderly f v → v e.at ≡ NoEntry → SparesAll f lawful v e.at

@@ -150,6 +150,7 @@ unfolding opened
 replaced_opens f lawful v at old bytes r = record {
   others = λ path apart. ap (opened_at f (edited v (file_edit at bytes))) (sym (stands_same f lawful v at old bytes r path)) ∙ by_standing path apart (standing f v path) refl;
   there = λ path file. ap (opened_at f (edited v (file_edit at bytes))) (sym (stands_same f lawful v at old bytes r path) ∙ file) ∙ ap (λ x. opened_file f.content (file_bytes x)) (brought_there v (file_edit at bytes));
+  enters = λ path place dir stands. sym (stands_same f lawful v at old bytes r path) ∙ stands;
 }
   where
     by_standing : (path : plain.Path) → standing f v path ≢ File at → (s : Standing) → standing f v path ≡ s → opened_at f (edited v (file_edit at bytes)) (standing f v path) ≡ opened_at f v (standing f v path)

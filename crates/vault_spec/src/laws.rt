@@ -146,7 +146,8 @@ pub fn new_items_of_cryptomator_keep_the_vault()
 }
 
 /// In any gocryptfs vault, orderly or not, the edits that make an item where no place is taken leave what opens, until the item opens at
-/// its path after the last. A content that is replaced opens at each of its paths, and all else as before.
+/// its path after the last. A content that is replaced opens at each of its paths, and all else as before. After either each directory
+/// that was entered at a path is entered there as before.
 pub fn new_items_of_gocryptfs_open_in_any_vault()
     ensures new { (keys : GoKeys) → NewItemsComeAtLast (go_format keys) }
     ensures replaced { (keys : GoKeys) → ContentsOpenAnew (go_format keys) }
@@ -157,7 +158,8 @@ pub fn new_items_of_gocryptfs_open_in_any_vault()
 }
 
 /// In any Cryptomator vault, orderly or not, the edits that make an item where no place is taken leave what opens, until the item opens at
-/// its path after the last. A content that is replaced opens at each of its paths, and all else as before.
+/// its path after the last. A content that is replaced opens at each of its paths, and all else as before. After either each directory
+/// that was entered at a path is entered there as before.
 pub fn new_items_of_cryptomator_open_in_any_vault()
     ensures replaced { (vault : CmVault) → ContentsOpenAnew (cm_format vault) }
     ensures new { (vault : CmVault) → NewItemsComeAtLast (cm_format vault) }

@@ -17,7 +17,7 @@ use Rattle.folder_spec.proofs.Tellings.{from_to_more, from_to_same}
 use Rattle.plain_tree.specs.Names as plain
 use Rattle.vault_spec.specs.Adding.{OpensAs, OpensWith, ComesAlone, StaysClean}
 use Rattle.vault_spec.specs.Alike.{IsOrderly}
-use Rattle.vault_spec.specs.Anywhere.{ComesAtLast}
+use Rattle.vault_spec.specs.Anywhere.{ComesAtLast, KeepsEntered}
 use Rattle.vault_spec.specs.Format.{Format}
 use Rattle.vault_spec.specs.Making.{NewItem, draws}
 use Rattle.vault_spec.specs.Opened.{OpenedVault}
@@ -56,8 +56,13 @@ fronts_open f v w (e ∷ next ∷ done) more at item as_before alone = fronts_op
 
 last_opens : (f : Format) (v w : View) (edits : List Edit) (at : plain.Path) (item : Opened) → ComesAtLast f v w edits at item → opened f (view_after w edits) at ≡ item
 last_opens f v w [] at item comes = absurd comes
-last_opens f v w (e ∷ []) at item comes = comes
+last_opens f v w (e ∷ []) at item comes = comes.0
 last_opens f v w (e ∷ next ∷ edits) at item comes = last_opens f v (edited w e) (next ∷ edits) at item comes.1
+
+last_entered : (f : Format) (v w : View) (edits : List Edit) (at : plain.Path) (item : Opened) → ComesAtLast f v w edits at item → KeepsEntered f v (view_after w edits)
+last_entered f v w [] at item comes = absurd comes
+last_entered f v w (e ∷ []) at item comes = comes.1
+last_entered f v w (e ∷ next ∷ edits) at item comes = last_entered f v (edited w e) (next ∷ edits) at item comes.1
 
 all_opens : (f : Format) (v w : View) (edits : List Edit) (at : plain.Path) (item : Opened) → ComesAlone f v w edits at item → OpensWith f v (view_after w edits) at item
 all_opens f v w [] at item comes = absurd comes
@@ -237,6 +242,8 @@ module _ (shows : EditsShowTrees) (settles : SettledEditsShowTrees) (roots : Roo
             let made : MakeItem (format p) (under p.vault.root (seen a.state)) (path_of p) (opens_as p.item) begun.edits = begun.item (record { clean = clean; orderly = orderly }) in
             subst (λ w. StaysGood (format p) (under p.vault.root (seen a.state)) w) (sym now)
             (all_stay (format p) (under p.vault.root (seen a.state)) (under p.vault.root (seen a.state)) begun.edits (path_of p) (opens_as p.item) made.alone made.clean made.tidy made.vault),
+        subst (λ w. KeepsEntered (format p) (under p.vault.root (seen a.state)) w) (sym now)
+            (last_entered (format p) (under p.vault.root (seen a.state)) (under p.vault.root (seen a.state)) begun.edits (path_of p) (opens_as p.item) begun.last),
       )
 
   -- after a failure some of the begun.edits are seen

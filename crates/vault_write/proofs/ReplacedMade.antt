@@ -20,6 +20,7 @@ use Rattle.vault_read.specs.Laws.{KeepsVaults}
 use Rattle.vault_spec.specs.Opened.{OpenedVault}
 use Rattle.vault_spec.specs.Adding.{OpensAs, OpensWith}
 use Rattle.vault_spec.specs.Alike.{IsOrderly}
+use Rattle.vault_spec.specs.Anywhere.{KeepsEntered}
 use Rattle.vault_spec.specs.Making as making
 use Rattle.vault_spec.specs.Making.{NewFile, Allows}
 use Rattle.vault_spec.specs.Opens.{Opened, opened, opened_file}
@@ -54,6 +55,7 @@ pub record IsReplaced (p : Placing) (opens : Opened) (drawn : List ℕ) (at : Pa
   pub making : making_at p (put_item p drawn) a.state ≡ replace_making at bytes
   pub item : MakesAlone p opens (file_edit place bytes ∷ []) a.state
   pub anew : opened (format p) (edited (under p.vault.root (seen a.state)) (file_edit place bytes)) (path_of p) ≡ opens
+  pub enters : KeepsEntered (format p) (under p.vault.root (seen a.state)) (edited (under p.vault.root (seen a.state)) (file_edit place bytes))
   pub alone : IsOrderly (format p) (under p.vault.root (seen a.state)) → OpensWith (format p) (under p.vault.root (seen a.state)) (edited (under p.vault.root (seen a.state)) (file_edit place bytes)) (path_of p) opens
   pub apart : below p.work p.vault.root ≡ None
   pub beside : below p.vault.root p.work ≡ None
@@ -74,6 +76,7 @@ is_replaced vault laws work front name content drawn at place a sound at_is ther
     vault = (laws.replaced_stay (under vault.root (seen a.state)) (front ++ name ∷ []) place (encrypt (format_of vault.vault).content drawn content) good.orderly there, tt);
   };
   anew = (laws.replaced_anew (under vault.root (seen a.state)) (front ++ name ∷ []) place (encrypt (format_of vault.vault).content drawn content) (folders_seen vault.root a.state sound) there).there (front ++ name ∷ []) there;
+  enters = (laws.replaced_anew (under vault.root (seen a.state)) (front ++ name ∷ []) place (encrypt (format_of vault.vault).content drawn content) (folders_seen vault.root a.state sound) there).enters;
   alone = λ orderly. laws.replaced_alone (under vault.root (seen a.state)) (front ++ name ∷ []) place (encrypt (format_of vault.vault).content drawn content) orderly there;
   apart = apart;
   beside = beside;
@@ -122,6 +125,7 @@ module _ (shows : EditsShowTrees) (settles : SettledEditsShowTrees) (roots : Roo
       λ clean orderly.
           let made : MakeItem (format p) u (path_of p) (opens_as p.item) (file_edit k.place bytes ∷ []) = k.item (record { clean = clean; orderly = orderly }) in
           subst (λ w. StaysGood (format p) u w) (sym (all_seen h.views)) (record { clean = made.clean.0; tidy = made.tidy; orderly = made.vault.0.0; loads = made.vault.0.1 }),
+      subst (λ w. KeepsEntered (format p) u w) (sym (all_seen h.views)) k.enters,
     )
 
     old_or_new_opens : Edits p.work p.vault.root (replace_making at bytes) a b → IsOrderly (format p) u → OpensAs (format p) u (under p.vault.root (seen b.state)) ⊎ OpensWith (format p) u (under p.vault.root (seen b.state)) (path_of p) (opens_as p.item)

@@ -57,9 +57,9 @@ pub record IsHeaded (keys : Keys) (empty : Bool) (stream stream' : Option ByteSt
 
 module _ (keys : Keys) (empty : Bool) (at : Path) (stream stream' : Option ByteStream) where
   -- nothing was drawn that serves
-  pub begin_undrawn : (told : Option Told) (n n' : ℕ) (fault : EncodeFault) → (begins_bare keys empty ≡ true → ⊥) → DrawFails (format_of keys) (format_of keys).header_draw stream stream' n n' fault
-      → BeginsContent keys empty at stream stream' told told (Err (of_encoding fault))
-  begin_undrawn told n n' encodes.Random bare h = record {
+  pub begin_undrawn : (told : Option Told) (e : Encoding) (n n' : ℕ) (fault : EncodeFault) → (begins_bare keys empty ≡ true → ⊥) → DrawFails (format_of keys) (format_of keys).header_draw stream stream' n n' fault
+      → BeginsContent keys empty at stream stream' told told e (Err (of_encoding fault))
+  begin_undrawn told e n n' encodes.Random bare h = record {
     drawn = h.1.0;
     made = [];
     were_drawn = h.1.2;
@@ -71,7 +71,7 @@ module _ (keys : Keys) (empty : Bool) (at : Path) (stream stream' : Option ByteS
     stages = stages_none at [] told told refl;
     ends = tt;
   }
-  begin_undrawn told n n' encodes.ZeroRandom bare h = record {
+  begin_undrawn told e n n' encodes.ZeroRandom bare h = record {
     drawn = replicate 16 0;
     made = [];
     were_drawn = h.1;
@@ -136,7 +136,7 @@ module _ (keys : Keys) (empty : Bool) (at : Path) (stream stream' : Option ByteS
 
 module _ (keys : Keys) (empty : Bool) (at : Path) (stream stream' : Option ByteStream) (made : List ℕ) (e : Encoding) (h : IsHeaded keys empty stream stream' made e) where
   -- no file was begun
-  pub begin_unbegun : (told told' : Option Told) (fault : FolderFault) → Begins at told told' (Err fault) → BeginsContent keys empty at stream stream' told told' (Err (of_folder fault))
+  pub begin_unbegun : (told told' : Option Told) (fault : FolderFault) → Begins at told told' (Err fault) → BeginsContent keys empty at stream stream' told told' e (Err (of_folder fault))
   begin_unbegun told told' fault begins = record {
     drawn = h.drawn;
     made = made;
@@ -152,7 +152,7 @@ module _ (keys : Keys) (empty : Bool) (at : Path) (stream stream' : Option ByteS
     writing files front = (begins files (shorter_front files [] made front)).1
 
     -- the header was not added
-    pub begin_unadded : (fault : FolderFault) → Adds at made told told' (Err fault) → BeginsContent keys empty at stream stream' told0 told' (Err (of_folder fault))
+    pub begin_unadded : (fault : FolderFault) → Adds at made told told' (Err fault) → BeginsContent keys empty at stream stream' told0 told' e (Err (of_folder fault))
     begin_unadded fault adds = record {
       drawn = h.drawn;
       made = made;
@@ -163,7 +163,7 @@ module _ (keys : Keys) (empty : Bool) (at : Path) (stream stream' : Option ByteS
       ends = folder_fails keys h.drawn fault;
     }
 
-    pub begins_added : (done : Unit {0}) → Adds at made told told' (Ok done) → BeginsContent keys empty at stream stream' told0 told' (Ok e)
+    pub begins_added : (done : Unit {0}) → Adds at made told told' (Ok done) → BeginsContent keys empty at stream stream' told0 told' e (Ok done)
     begins_added done adds = record {
       drawn = h.drawn;
       made = made;

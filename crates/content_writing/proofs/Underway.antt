@@ -20,7 +20,6 @@ use Rattle.content_writing.specs.Faults.{of_folder}
 use Rattle.content_writing.specs.Streaming.{Gathers, FailsToStore, IsMadeFor, StagesFront, IsStaged, BeginsContent, IsNextChunk, StoresChunk, Start, IsUnderway}
 use Rattle.content_writing.specs.Writing.{WritesContent}
 use Rattle.content_writing.specs.declared.fault.PutFault.{PutFault}
-use Rattle.content_writing.specs.declared.fault.PutFault.TheVariants as puts
 use Rattle.content_writing.proofs.Comings.{gave_none, gave_more, ended_on, all_of, rest_of, rest_none, all_is, ending_is}
 use Rattle.content_writing.proofs.Sixteens.{whole_drawn}
 use Rattle.content_writing.proofs.Drawing.{none_accepted, encrypted_accepted, none_in_front, whole_made}
@@ -45,15 +44,6 @@ short_or_full (suc n) (suc m) within = elim (short_or_full n m (omega (arith, wi
   | inr same ↦ inr (ap suc same)
 ]
 
-abbrev failed : PutFault → Result (Unit {0}) PutFault
-failed fault = Err fault
-
-abbrev unbegun : PutFault → Result Encoding PutFault
-unbegun fault = Err fault
-
-zeros_alike : (fault : PutFault) → unbegun fault ≡ unbegun puts.ZeroRandom → failed fault ≡ failed puts.ZeroRandom
-zeros_alike fault is = let same : fault ≡ puts.ZeroRandom = cc in ap failed same
-
 none_at_first : (keys : Keys) (content : List ℕ) → IsMadeFor keys [] content []
 none_at_first keys content = record { enough = omega arith; front = none_in_front (encrypt keys [] content) }
 
@@ -77,14 +67,14 @@ module _ (w : Start) where
         empty_alike gathered (rest_of w.coming left) (λ none. rest_none Whole w.coming left (h.ends (omega (arith, none, some_full))))
         ∙ ap (λ (n : ℕ). n == 0) (sym counted)
 
-    pub begin_fails : (fault : PutFault) → BeginsContent w.keys (size == 0) w.at w.stream stream told0 told (Err fault)
+    pub begin_fails : (e : Encoding) (fault : PutFault) → BeginsContent w.keys (size == 0) w.at w.stream stream told0 told e (Err fault)
         → WritesContent w.keys w.at w.coming left w.stream stream w.told told (Err fault)
-    begin_fails fault b =
+    begin_fails e fault b =
         ends_as w gathered left h.gave Whole b.drawn b.made stream told (Err fault) b.were_drawn (b.fits (gathered ++ rest_of w.coming left) empty_so)
-        (subst (λ (t : Option Told). StagesFront w.at b.made t told) same b.stages) (λ not. b.accepted (λ is. not (zeros_alike fault is)))
+        (subst (λ (t : Option Told). StagesFront w.at b.made t told) same b.stages) (λ not. b.accepted not)
         (ends_storing w.keys w.at b.drawn (all_of gathered Whole w.coming).bytes (all_of gathered Whole w.coming).ending w.coming left w.told told [] b.drawn fault refl (λ refuses. (0, refl)) b.ends)
 
-    pub has_begun : (e : Encoding) → length gathered ≤ full → BeginsContent w.keys (size == 0) w.at w.stream stream told0 told (Ok e)
+    pub has_begun : (e : Encoding) → length gathered ≤ full → BeginsContent w.keys (size == 0) w.at w.stream stream told0 told e (Ok tt)
         → IsUnderway w e gathered told stream left
     has_begun e within b = record {
       drawn = b.drawn;

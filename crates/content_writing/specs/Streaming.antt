@@ -73,19 +73,19 @@ pub record HasBegunFile (keys : Keys) (empty : Bool) (at : Path) (drawn made : L
   pub whole : empty ≡ true → IsEncrypted keys drawn [] made
   pub goes_on : empty ≡ false → HasMade e drawn [] made
 
-abbrev pub BeginsBy : Keys → Bool → Path → List ℕ → List ℕ → Option Told → Option Told → Result Encoding PutFault → Type 0
-BeginsBy keys empty at drawn made before after (Ok e) = HasBegunFile keys empty at drawn made before after e
-BeginsBy keys empty at drawn made before after (Err fault) = FailsToStore keys drawn fault
+abbrev pub BeginsBy : Keys → Bool → Path → List ℕ → List ℕ → Option Told → Option Told → Encoding → Result (Unit {0}) PutFault → Type 0
+BeginsBy keys empty at drawn made before after e (Ok _) = HasBegunFile keys empty at drawn made before after e
+BeginsBy keys empty at drawn made before after e (Err fault) = FailsToStore keys drawn fault
 
 -- A call begins the file of a content, of which it knows whether that is empty.
-pub record BeginsContent (keys : Keys) (empty : Bool) (at : Path) (stream stream' : Option ByteStream) (before after : Option Told) (result : Result Encoding PutFault) : Type 0 where
+pub record BeginsContent (keys : Keys) (empty : Bool) (at : Path) (stream stream' : Option ByteStream) (before after : Option Told) (e : Encoding) (result : Result (Unit {0}) PutFault) : Type 0 where
   pub drawn : List ℕ
   pub made : List ℕ
   pub were_drawn : Draws stream stream' drawn
   pub fits : (content : List ℕ) → (length content == 0) ≡ empty → IsMadeFor keys drawn content made
   pub accepted : result ≢ Err puts.ZeroRandom → WereAccepted keys drawn
   pub stages : StagesFront at made before after
-  pub ends : BeginsBy keys empty at drawn made before after result
+  pub ends : BeginsBy keys empty at drawn made before after e result
 
 -- The chunk is the last one, or full, where more may follow.
 abbrev pub IsNextChunk : Keys → List ℕ → List ℕ → Type 0

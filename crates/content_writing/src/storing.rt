@@ -20,22 +20,22 @@ pub(crate) fn begin_content<F: Folder, R: Randoms>(
     folder: &mut F,
     staged: &FPath,
     keys: ContentKeys,
+    encoder: &mut Encoder,
     random: &mut R,
     empty: bool,
     stored: &mut ChunkBuf,
-) -> Result<Encoder, PutFault>
+) -> Result<(), PutFault>
     requires { IsStage (F.told folder.old) staged.now }
-    ensures begun { BeginsContent keys empty staged.now (R.left random.old) (R.left random.new) (F.told folder.old) (F.told folder.new) result }
+    ensures begun { BeginsContent keys empty staged.now (R.left random.old) (R.left random.new) (F.told folder.old) (F.told folder.new) encoder.new result }
     ensures failed { Blames result PutFault.Failed (F.faults folder.old) (F.faults folder.new) }
     ensures random { Blames result PutFault.Random (R.faults random.old) (R.faults random.new) }
 {
     made_is_a_front();
     draws_compose();
     written_files_are_seen();
-    let begun = Encoder::start(keys, random, empty, stored)?;
+    let length = encoder.begin(keys, random, empty, stored)?;
     begin_file(folder, staged)?;
-    add_piece(folder, staged, &stored.bytes()[..begun.length])?;
-    Ok(begun.encoder)
+    Ok(add_piece(folder, staged, &stored.bytes()[..length])?)
 }
 
 // Stores the next chunk.

@@ -9,7 +9,7 @@ use crate::fault::PutFault;
 use crate::gathered::Gathered;
 use crate::gathering::{gather, gather_next};
 use crate::storing::{begin_content, store_chunk};
-use chunk_files::{ChunkBuf, ContentKeys};
+use chunk_files::{ChunkBuf, ContentKeys, Encoder};
 use folder_model::{FPath, Folder};
 use folder_staging::finish_file;
 use folder_staging::laws::written_files_are_seen;
@@ -17,18 +17,23 @@ use port_model::Randoms;
 use port_model::laws::draws_compose;
 use std::alloc::{AllocError, Global};
 
-/// What writing a content takes: room for a piece of it, for a chunk, and for what is stored of one.
+/// What writing contents takes: an encoder, and room for a piece of a content, for a chunk, and for what is stored of one.
 #[derive(Drop)]
 pub struct Buffers {
+    encoder: Box<Encoder>,
     piece: ChunkBuf,
     plain: Gathered,
     stored: ChunkBuf,
 }
 
 impl Buffers {
-    /// Takes three buffers of 32,816 bytes.
-    pub fn new(alloc: Global) -> Result<Buffers, AllocError> {
+    /// Takes three buffers of 32,816 bytes, and an encoder under these keys. Contents may be written under others with them.
+    pub fn new(alloc: Global, keys: ContentKeys) -> Result<Buffers, AllocError> {
+        let Ok(encoder) = Box::new(alloc, Encoder::new(keys)) else {
+            return Err(AllocError);
+        };
         Ok(Buffers {
+            encoder,
             piece: ChunkBuf::new(alloc)?,
             plain: Gathered::new(alloc)?,
             stored: ChunkBuf::new(alloc)?,
@@ -66,6 +71,7 @@ pub fn write_content<F: Folder, R: Randoms, C: Content<F>>(
         keys,
         content,
         random,
+        &mut buffers.encoder,
         &mut buffers.piece,
         &mut buffers.plain,
         &mut buffers.stored,
@@ -78,6 +84,7 @@ fn write_chunks<F: Folder, R: Randoms, C: Content<F>>(
     keys: ContentKeys,
     content: &mut C,
     random: &mut R,
+    encoder: &mut Encoder,
     piece: &mut ChunkBuf,
     plain: &mut Gathered,
     stored: &mut ChunkBuf,
@@ -98,9 +105,17 @@ fn write_chunks<F: Folder, R: Randoms, C: Content<F>>(
     written_files_are_seen();
     let full = keys.layout().full();
     gather(folder, content, piece, plain, full)?;
-    let mut encoder = begin_content(folder, staged, keys, random, plain.len() == 0, stored)?;
+    begin_content(
+        folder,
+        staged,
+        keys,
+        encoder,
+        random,
+        plain.len() == 0,
+        stored,
+    )?;
     'chunks: while plain.len() > 0 {
-        store_chunk(folder, staged, &mut encoder, random, plain.bytes(), stored)?;
+        store_chunk(folder, staged, encoder, random, plain.bytes(), stored)?;
         gather_next(folder, content, piece, plain, full)?;
     }
     Ok(finish_file(folder, staged)?)

@@ -1,12 +1,18 @@
 //! Placing the source's items in the target.
-ghost use Rattle.std.specs.Prelude.{◌≡◌, ◌≤◌, ◌∷◌, [], not, IfErr, IfOk};
+ghost use Rattle.std.specs.Prelude.{◌≡◌, ◌≤◌, ◌∷◌, [], not, IfErr, IfOk, Some};
 ghost use Rattle.port_model.specs.Counts.{CountRose};
+ghost use Rattle.chunk_files.specs.Decoding.{started};
 ghost use Rattle.folder_spec.specs.Seen.{IfSeen};
+ghost use Rattle.folder_spec.specs.View.{Found};
 ghost use Rattle.move_journal.specs.Journal.{IsDigest};
 ghost use Rattle.migration_spec.specs.Alone.{Begun};
 ghost use Rattle.vault_spec.specs.Vault.{format_of};
 ghost use Rattle.vault_walk.specs.Survey.{IsOrdered};
+ghost use Rattle.content_writing.specs.Content.{content_limit};
 ghost use Rattle.content_writing.specs.Making.{is_apart};
+ghost use Rattle.vault_contents.specs.Coming.{coming_read};
+ghost use Rattle.vault_contents.specs.VaultContents.{coming_of, path_of};
+ghost use Rattle.vault_write.specs.Calls.{IsKept};
 ghost use Rattle.work_folder.specs.Entering.{IsReady};
 ghost use Rattle.migrate_core.specs.Causes.{IsStop, StopsSeen, nothing_stops};
 ghost use Rattle.migrate_core.specs.Copying.{CopiesAll, CopiesMissing, CopiesOne, Enters, HasCopied};
@@ -29,15 +35,15 @@ use plain_tree::laws::prefix_comes_first;
 use plain_tree::{NameMap, NodeKind};
 use port_model::Randoms;
 use port_model::laws::draws_compose;
-use std::alloc::Global;
+use std::alloc::{AllocError, Global};
 use tree_match::laws::{mapped_walks_tell_the_mapped_tree, walks_tell_the_tree};
 use vault_contents::VaultContent;
 use vault_contents::laws::files_fit_as_contents;
-use vault_read::ContentReader;
 use vault_read::laws::{files_have_their_contents, items_keep_vaults};
+use vault_read::{ContentReader, Vault};
 use vault_spec::laws::{what_is_found_stands, what_stands_is_found_step_by_step};
 use vault_walk::{Plan, PlanItem, plan_digest};
-use vault_write::{place_dir, place_file};
+use vault_write::{Kept, place_dir_keeping, place_file_keeping};
 use work_folder::Work;
 
 /// What a migration has done: how many items it placed, and how many the target has.
@@ -105,12 +111,32 @@ pub(crate) fn place_missing<F: Folder, R: Randoms>(
     what_is_found_stands();
     what_stands_is_found_step_by_step();
     let mut placed = 0;
+    let mut carried = Carried {
+        content: None,
+        kept: Kept::new(),
+    };
     for item in items {
-        if place_missing_one(alloc, folder, work, sides, item, there, random)? {
+        if place_missing_one(
+            alloc,
+            folder,
+            work,
+            sides,
+            item,
+            there,
+            &mut carried,
+            random,
+        )? {
             placed += 1;
         }
     }
     Ok(placed)
+}
+
+// What is carried from one item to the next: the content read last, and what placing it in the target kept.
+#[derive(Drop)]
+struct Carried {
+    content: Option<VaultContent>,
+    kept: Kept,
 }
 
 // Places an item where it isn't there, and says whether it did.
@@ -121,13 +147,16 @@ fn place_missing_one<F: Folder, R: Randoms>(
     sides: &Sides,
     item: &PlanItem,
     there: &[PlanItem],
+    carried: &mut Carried,
     random: &mut R,
 ) -> Result<bool, MoveFault>
+    requires kept { IsKept sides.now.target (F.told folder.old) carried.old.kept.dir }
     requires apart { AreSeparate sides.now.source.root sides.now.target.root work.now }
     requires item { IsItemOf sides.now.names (F.told folder.old) sides.now.source item.now }
     requires allowed { AllowsLast (format_of sides.now.target.vault) item.now.path }
     requires ready { IfSeen (F.told folder.old) (λ v. IsReady v work.now) }
     requires there { IfSeen (F.told folder.old) (λ v. IsOrdered there.now) }
+    ensures kept { IfOk result (λ placed. IsKept sides.now.target (F.told folder.new) carried.new.kept.dir) }
     ensures guard { LeadsEach sides.now.names sides.now.source sides.now.target work.now Begun Begun (F.told folder.old) (F.told folder.new) result }
     ensures moves { MovesBeside (is_apart work.now sides.now.target.root) sides.now.target.root (F.told folder.old) (F.told folder.new) }
     ensures ready { IfOk result (λ placed. IfSeen (F.told folder.new) (λ v. IsReady v work.now)) }
@@ -145,7 +174,7 @@ fn place_missing_one<F: Folder, R: Randoms>(
     if stands(there, item) {
         return Ok(false);
     }
-    place(alloc, folder, work, sides, item, random)?;
+    place(alloc, folder, work, sides, item, carried, random)?;
     Ok(true)
 }
 
@@ -165,12 +194,15 @@ fn place<F: Folder, R: Randoms>(
     work: &Work,
     sides: &Sides,
     item: &PlanItem,
+    carried: &mut Carried,
     random: &mut R,
 ) -> Result<(), MoveFault>
+    requires kept { IsKept sides.now.target (F.told folder.old) carried.old.kept.dir }
     requires apart { AreSeparate sides.now.source.root sides.now.target.root work.now }
     requires item { IsItemOf sides.now.names (F.told folder.old) sides.now.source item.now }
     requires allowed { AllowsLast (format_of sides.now.target.vault) item.now.path }
     requires ready { IfSeen (F.told folder.old) (λ v. IsReady v work.now) }
+    ensures kept { IfOk result (λ placed. IsKept sides.now.target (F.told folder.new) carried.new.kept.dir) }
     ensures guard { LeadsEach sides.now.names sides.now.source sides.now.target work.now Begun Begun (F.told folder.old) (F.told folder.new) result }
     ensures moves { MovesBeside (is_apart work.now sides.now.target.root) sides.now.target.root (F.told folder.old) (F.told folder.new) }
     ensures ready { IfOk result (λ placed. IfSeen (F.told folder.new) (λ v. IsReady v work.now)) }
@@ -191,8 +223,16 @@ fn place<F: Folder, R: Randoms>(
     what_stands_is_found_step_by_step();
     let _named = item.path.names();
     match item.node {
-        NodeKind::Dir => Ok(place_dir(alloc, folder, work, &sides.target, &item.path, random)?),
-        NodeKind::File => place_content(alloc, folder, work, sides, item, random),
+        NodeKind::Dir => Ok(place_dir_keeping(
+            alloc,
+            folder,
+            work,
+            &sides.target,
+            &mut carried.kept,
+            &item.path,
+            random,
+        )?),
+        NodeKind::File => place_content(alloc, folder, work, sides, item, carried, random),
     }
 }
 
@@ -203,13 +243,16 @@ fn place_content<F: Folder, R: Randoms>(
     work: &Work,
     sides: &Sides,
     item: &PlanItem,
+    carried: &mut Carried,
     random: &mut R,
 ) -> Result<(), MoveFault>
+    requires kept { IsKept sides.now.target (F.told folder.old) carried.old.kept.dir }
     requires file { item.now.node ≡ NodeKind.File }
     requires apart { AreSeparate sides.now.source.root sides.now.target.root work.now }
     requires item { IsItemOf sides.now.names (F.told folder.old) sides.now.source item.now }
     requires allowed { AllowsLast (format_of sides.now.target.vault) item.now.path }
     requires ready { IfSeen (F.told folder.old) (λ v. IsReady v work.now) }
+    ensures kept { IfOk result (λ placed. IsKept sides.now.target (F.told folder.new) carried.new.kept.dir) }
     ensures guard { LeadsEach sides.now.names sides.now.source sides.now.target work.now Begun Begun (F.told folder.old) (F.told folder.new) result }
     ensures moves { MovesBeside (is_apart work.now sides.now.target.root) sides.now.target.root (F.told folder.old) (F.told folder.new) }
     ensures ready { IfOk result (λ placed. IfSeen (F.told folder.new) (λ v. IsReady v work.now)) }
@@ -231,15 +274,36 @@ fn place_content<F: Folder, R: Randoms>(
     what_is_found_stands();
     what_stands_is_found_step_by_step();
     let _named = item.path.names();
-    let reader = ContentReader::start(alloc, &sides.source, &item.at)?;
-    let mut content = VaultContent::new(alloc, reader);
-    Ok(place_file(
+    let mut content = content_at(alloc, &sides.source, &item.at, carried.content.take())?;
+    let placed = place_file_keeping(
         alloc,
         folder,
         work,
         &sides.target,
+        &mut carried.kept,
         &item.path,
         &mut content,
         random,
-    )?)
+    );
+    carried.content = Some(content);
+    Ok(placed?)
+}
+
+// The content of the file at a path of the source: the last one, which goes on with it, or a new one.
+fn content_at(
+    alloc: Global,
+    vault: &Vault,
+    at: &FPath,
+    last: Option<VaultContent>,
+) -> Result<VaultContent, AllocError>
+    ensures reads { IfOk result (λ content. path_of content ≡ Some at.now) }
+    ensures coming { IfOk result (λ content. (found : Found) → coming_of content found
+        ≡ coming_read (record { at = at.now; decoding = started (format_of vault.now.vault).content }) content_limit [] found) }
+{
+    let Some(mut content) = last else {
+        let reader = ContentReader::start(alloc, vault, at)?;
+        return Ok(VaultContent::new(alloc, reader));
+    };
+    content.turn_to(vault, at)?;
+    Ok(content)
 }

@@ -87,7 +87,7 @@ fn call_item(stage: &mut Stage, verb: &str, words: &str, handed: &mut Handed) {
 
 // Writes what the input has left as a content file of a vault.
 fn call_write(stage: &mut Stage, vault: &Vault, staged: &FPath, handed: &mut Handed) {
-    let Ok(mut buffers) = Buffers::new(stage.alloc) else {
+    let Ok(mut buffers) = Buffers::new(stage.alloc, vault.content_keys()) else {
         return stage.stop(Stop::NoMemory);
     };
     if staged.depth() == 0 {
@@ -105,7 +105,7 @@ fn call_copy(stage: &mut Stage, vault: &Vault, staged: &FPath, from: &FPath, han
     if staged.depth() == 0 || from.starts_with(staged) {
         return stage.stop(Stop::Line);
     }
-    let Ok(mut buffers) = Buffers::new(stage.alloc) else {
+    let Ok(mut buffers) = Buffers::new(stage.alloc, vault.content_keys()) else {
         return stage.stop(Stop::NoMemory);
     };
     let Ok(reader) = ContentReader::start(stage.alloc, vault, from) else {

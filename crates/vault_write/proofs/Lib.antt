@@ -26,3 +26,4 @@ mod FileMade
 mod Replacing
 mod ReplacedMade
 mod PutMade
+mod Keeping

@@ -1,5 +1,5 @@
 -- The calls that make an item at a plain path: under which bytes drawn, of which content, and all that follows of these.
-use Rattle.std.specs.Prelude.{◌≡◌, ◌≢◌, ◌≤◌, ℕ, List, [], ◌∷◌, ◌++◌, length, Option, Some, None, Result, Err, OnOk}
+use Rattle.std.specs.Prelude.{◌≡◌, ◌≢◌, ◌≤◌, ℕ, List, [], ◌∷◌, ◌++◌, length, Option, Some, None, Result, Err, OnOk, IfSome}
 use Rattle.chunk_files.specs.Keys.{Keys}
 use Rattle.port_model.specs.Draws.{ByteStream, Draws}
 use Rattle.folder_spec.specs.Path.{Path, below}
@@ -7,6 +7,8 @@ use Rattle.folder_spec.specs.Event.{Told}
 use Rattle.folder_spec.specs.Seen.{IfSeen, under}
 use Rattle.folder_spec.specs.View.{View}
 use Rattle.plain_tree.specs.Names as plain
+use Rattle.vault_read.specs.Finding.{IsDirPlace}
+use Rattle.vault_read.specs.Opened.{FitsKey}
 use Rattle.vault_spec.specs.Opened.{OpenedVault}
 use Rattle.vault_spec.specs.Making.{NewItem, NewDirectory, NewFile, draws}
 use Rattle.vault_spec.specs.Vault.{format_of}
@@ -17,6 +19,8 @@ use Rattle.content_writing.specs.Placing.{Makes}
 use Rattle.vault_write.specs.Refusing.{Answers, AnswersPut, TakesRoot, PutsRoot}
 use Rattle.content_writing.specs.declared.fault.PutFault.{PutFault}
 use Rattle.content_writing.specs.declared.fault.PutFault.TheVariants as puts
+use Rattle.vault_read.specs.declared.finding.DirPlace.{DirPlace}
+use Rattle.vault_write.specs.declared.kept.KeptDir.{KeptDir}
 
 -- an item that is new, or one that may come in the place of a file
 pub data How : Type 0 where
@@ -80,3 +84,11 @@ pub record MakesFile (how : How) (vault : OpenedVault) (work : Path) (path : pla
 abbrev pub ReadsElsewhere : Option Path → Path → Path → Type 0
 ReadsElsewhere None work root = Unit {0}
 ReadsElsewhere (Some at) work root = (below work at ≡ None) × (below root at ≡ None)
+
+-- this is the directory that a plain path leads to
+abbrev pub IsAt : OpenedVault → plain.Path → DirPlace → Option Told → Type 0
+IsAt vault front dir told = IfSeen told (λ v. IsDirPlace vault.root (format_of vault.vault) (under vault.root v) front dir)
+
+-- the directory that is kept, if any, is that of its plain path
+abbrev pub IsKept : OpenedVault → Option Told → Option KeptDir → Type 0
+IsKept vault told kept = IfSome kept (λ here. FitsKey vault.vault here.dir.key × IsAt vault here.path here.dir told)

@@ -5,18 +5,19 @@ ghost use Rattle.folder_spec.specs.Seen.{IfSeen, ShowsFree, under};
 ghost use Rattle.folder_model.specs.Answers.{CountsAbove};
 ghost use Rattle.plain_tree.specs.Names.{is_name};
 ghost use Rattle.port_model.specs.Counts.{CountRose};
-ghost use Rattle.vault_read.specs.Opened.{kind_of};
+ghost use Rattle.vault_read.specs.Opened.{FitsKey, kind_of};
 ghost use Rattle.vault_spec.specs.Making.{NewDirectory};
 ghost use Rattle.vault_spec.specs.Vault.{format_of};
-ghost use Rattle.vault_write.specs.Calls.{MakesDirectory};
+ghost use Rattle.vault_write.specs.Calls.{IsAt, IsKept, MakesDirectory};
 ghost use Rattle.vault_write.specs.Editing.{AddsEdits, HomePlaces, GoPlaces, CmPlaces, HasBegun, DoesEdits, shelf_edits, home_edits, go_making, cm_making};
 ghost use Rattle.vault_write.specs.Faults.{IsDirectoryFault};
 ghost use Rattle.content_writing.specs.Placing.{MayMake};
 ghost use Rattle.vault_write.specs.Slots.{IsSlot, PlacesOne, placing};
 
 use crate::drawing::{draw_id, draw_some};
+use crate::kept::Kept;
 use crate::laws::edits_show_trees;
-use crate::slot::{Home, Slot, home_of, slot_at, taken, wants_side};
+use crate::slot::{Home, Slot, home_of, kept_or_entered, slot_at, taken, wants_side};
 use crate::stage::{make_folder, publish_directory, publish_side};
 use content_writing::PutFault;
 use folder_model::{FPath, Folder};
@@ -28,7 +29,7 @@ use std::alloc::Global;
 use text_model::Text;
 use vault_names::laws::dir_ids_are_plain;
 use vault_read::laws::items_keep_vaults;
-use vault_read::{Vault, VaultKind};
+use vault_read::{DirPlace, Vault, VaultKind};
 use vault_spec::laws::{contents_of_cryptomator_refuse_no_zeros, what_is_found_stands};
 use work_folder::Work;
 
@@ -52,24 +53,85 @@ pub fn place_dir<F: Folder, R: Randoms>(
     ensures grows { F.faults folder.old ≤ F.faults folder.new }
     ensures counted { R.faults random.old ≤ R.faults random.new }
 {
+    let mut kept = Kept::new();
+    place_dir_keeping(alloc, folder, work, vault, &mut kept, path, random)
+}
+
+/// Makes a new directory at a plain path as `place_dir` does, and keeps the directory that has it, which isn't entered anew where it is
+/// the one that was kept.
+pub fn place_dir_keeping<F: Folder, R: Randoms>(
+    alloc: Global,
+    folder: &mut F,
+    work: &Work,
+    vault: &Vault,
+    kept: &mut Kept,
+    path: &PlainPath,
+    random: &mut R,
+) -> Result<(), PutFault>
+    requires kept { IsKept vault.now (F.told folder.old) kept.old.dir }
+    requires may { MayMake (F.told folder.old) work.now vault.now.root }
+    ensures made { MakesDirectory vault.now work.now path.now (R.left random.old) (R.left random.new) (F.told folder.old) (F.told folder.new) result }
+    ensures kept { OnOk result (IsKept vault.now (F.told folder.new) kept.new.dir) }
+    ensures fault { IfErr result (λ fault. IsDirectoryFault fault) }
+    ensures failed { result ≡ Err PutFault.Failed → CountRose (F.faults folder.old) (F.faults folder.new) }
+    ensures random { result ≡ Err PutFault.Random → CountRose (R.faults random.old) (R.faults random.new) }
+    ensures grows { F.faults folder.old ≤ F.faults folder.new }
+    ensures counted { R.faults random.old ≤ R.faults random.new }
+{
     match path.names() {
         [] => Err(taken(vault.root())),
-        [front @ .., name] => place_named(alloc, folder, work, vault, path, front, name, random),
+        [front @ .., name] => {
+            place_named(alloc, folder, work, vault, kept, path, front, name, random)
+        }
     }
 }
 
-// Makes a new directory under a name in the directory at the front of a path.
+// Makes a new directory under a name in the directory at the front of a path, which is kept.
 fn place_named<F: Folder, R: Randoms>(
     alloc: Global,
     folder: &mut F,
     work: &Work,
     vault: &Vault,
+    kept: &mut Kept,
     path: &PlainPath,
     front: &[Name],
     name: &Name,
     random: &mut R,
 ) -> Result<(), PutFault>
     requires path { path.now ≡ front.now ++ name.now ∷ [] }
+    requires kept { IsKept vault.now (F.told folder.old) kept.old.dir }
+    requires may { MayMake (F.told folder.old) work.now vault.now.root }
+    ensures made { PlacesOne (placing vault.now work.now front.now name.now NewDirectory) (R.left random.old) (R.left random.new) (F.told folder.old) (F.told folder.new) result }
+    ensures kept { OnOk result (IsKept vault.now (F.told folder.new) kept.new.dir) }
+    ensures fault { IfErr result (λ fault. IsDirectoryFault fault) }
+    ensures failed { result ≡ Err PutFault.Failed → CountRose (F.faults folder.old) (F.faults folder.new) }
+    ensures random { result ≡ Err PutFault.Random → CountRose (R.faults random.old) (R.faults random.new) }
+    ensures grows { F.faults folder.old ≤ F.faults folder.new }
+    ensures counted { R.faults random.old ≤ R.faults random.new }
+{
+    let here = kept_or_entered(alloc, folder, vault, front, kept.dir.take())?;
+    let result = place_under(
+        alloc, folder, work, vault, &here.dir, path, front, name, random,
+    );
+    kept.dir = Some(here);
+    result
+}
+
+// Makes a new directory under a name in a directory that is entered, which is that at the front of a path.
+fn place_under<F: Folder, R: Randoms>(
+    alloc: Global,
+    folder: &mut F,
+    work: &Work,
+    vault: &Vault,
+    dir: &DirPlace,
+    path: &PlainPath,
+    front: &[Name],
+    name: &Name,
+    random: &mut R,
+) -> Result<(), PutFault>
+    requires path { path.now ≡ front.now ++ name.now ∷ [] }
+    requires key { FitsKey vault.now.vault dir.now.key }
+    requires dir { IsAt vault.now front.now dir.now (F.told folder.old) }
     requires may { MayMake (F.told folder.old) work.now vault.now.root }
     ensures made { PlacesOne (placing vault.now work.now front.now name.now NewDirectory) (R.left random.old) (R.left random.new) (F.told folder.old) (F.told folder.new) result }
     ensures fault { IfErr result (λ fault. IsDirectoryFault fault) }
@@ -78,7 +140,7 @@ fn place_named<F: Folder, R: Randoms>(
     ensures grows { F.faults folder.old ≤ F.faults folder.new }
     ensures counted { R.faults random.old ≤ R.faults random.new }
 {
-    let slot = slot_at(alloc, folder, vault, path, front, name)?;
+    let slot = slot_at(alloc, folder, vault, dir, path, front, name)?;
     let _named = name.bytes();
     match vault.kind() {
         VaultKind::Gocryptfs => place_go(alloc, folder, work, vault, &slot, front, name, random),

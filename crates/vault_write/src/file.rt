@@ -4,11 +4,11 @@ ghost use Rattle.folder_spec.specs.Event.{Told, Allowed, Rename};
 ghost use Rattle.folder_model.specs.Answers.{CountsAbove};
 ghost use Rattle.folder_spec.specs.Seen.{IfSeen, ShowsFree, under};
 ghost use Rattle.plain_tree.specs.Names.{is_name};
-ghost use Rattle.vault_read.specs.Opened.{kind_of};
+ghost use Rattle.vault_read.specs.Opened.{FitsKey, kind_of};
 ghost use Rattle.vault_spec.specs.Vault.{format_of};
 ghost use Rattle.content_writing.specs.Content.{IsReady, still_coming};
 ghost use Rattle.content_writing.specs.Writing.{Blames, ReadsApart};
-ghost use Rattle.vault_write.specs.Calls.{MakesFile, New, InPlace, ReadsElsewhere};
+ghost use Rattle.vault_write.specs.Calls.{IsAt, IsKept, MakesFile, New, InPlace, ReadsElsewhere};
 ghost use Rattle.vault_write.specs.Editing.{MayCome};
 ghost use Rattle.vault_write.specs.Faults.{IsFileFault};
 ghost use Rattle.vault_write.specs.Filing.{StagesEntry, PlacesEntry, PlacesFile, PublishesEntry, MayReplace, ReplacesEntry, ReplacesContent, IsSlotOver, StandsAs, StandsUnder, IsAtDirectory};
@@ -17,8 +17,9 @@ ghost use Rattle.vault_spec.specs.Making.{Allows};
 ghost use Rattle.vault_spec.specs.Standing.{standing};
 ghost use Rattle.vault_write.specs.Slots.{IsSlot, CountsFailed};
 
+use crate::kept::{Kept, kept_or_new};
 use crate::laws::edits_show_trees;
-use crate::slot::{Slot, is_free, slot_at, slot_over, taken, wants_side};
+use crate::slot::{Slot, is_free, kept_or_entered, slot_at, slot_over, taken, wants_side};
 use crate::stage::{publish_side, stage_name, staged_entry};
 use chunk_files::ContentKeys;
 use chunk_files::laws::{encrypted_files_are_files, files_are_what_they_give};
@@ -34,7 +35,7 @@ use std::alloc::Global;
 use text_model::Text;
 use vault_faults::FindFault;
 use vault_read::laws::{files_have_their_contents, items_keep_vaults};
-use vault_read::{Place, Vault, VaultKind, find};
+use vault_read::{DirPlace, Place, Vault, VaultKind, find};
 use vault_spec::laws::what_is_found_stands;
 use work_folder::Work;
 
@@ -64,11 +65,42 @@ pub fn place_file<F: Folder, R: Randoms, C: Content<F>>(
     ensures source { Blames result PutFault.Source (C.faults content.old) (C.faults content.new) }
     ensures random { Blames result PutFault.Random (R.faults random.old) (R.faults random.new) }
 {
+    let mut kept = Kept::new();
+    place_file_keeping(alloc, folder, work, vault, &mut kept, path, content, random)
+}
+
+/// Makes a new file at a plain path as `place_file` does, and keeps the directory that has it, which isn't entered anew where it is the
+/// one that was kept.
+pub fn place_file_keeping<F: Folder, R: Randoms, C: Content<F>>(
+    alloc: Global,
+    folder: &mut F,
+    work: &Work,
+    vault: &Vault,
+    kept: &mut Kept,
+    path: &PlainPath,
+    content: &mut C,
+    random: &mut R,
+) -> Result<(), PutFault>
+    requires kept { IsKept vault.now (F.told folder.old) kept.old.dir }
+    requires may { MayMake (F.told folder.old) work.now vault.now.root }
+    requires ready { IsReady (C.reads content.old) (F.told folder.old) (C.coming content.old) }
+    requires elsewhere { ReadsElsewhere (C.reads content.old) work.now vault.now.root }
+    ensures made { MakesFile New vault.now work.now path.now (still_coming (C.reads content.old) (F.told folder.old) (C.coming content.old)) (still_coming (C.reads content.old) (F.told folder.old) (C.coming content.new))
+        (R.left random.old) (R.left random.new) (F.told folder.old) (F.told folder.new) result }
+    ensures kept { OnOk result (IsKept vault.now (F.told folder.new) kept.new.dir) }
+    ensures fault { IfErr result (λ fault. IsFileFault fault) }
+    ensures reads { C.reads content.new ≡ C.reads content.old }
+    ensures room { C.room content.new ≤ C.room content.old }
+    ensures lender { C.lender content.new ≡ C.lender content.old }
+    ensures failed { Blames result PutFault.Failed (F.faults folder.old) (F.faults folder.new) }
+    ensures source { Blames result PutFault.Source (C.faults content.old) (C.faults content.new) }
+    ensures random { Blames result PutFault.Random (R.faults random.old) (R.faults random.new) }
+{
     match path.names() {
         [] => Err(taken(vault.root())),
         [front @ .., name] => {
             place_named(
-                alloc, folder, work, vault, path, front, name, content, random,
+                alloc, folder, work, vault, kept, path, front, name, content, random,
             )
         }
     }
@@ -237,7 +269,7 @@ fn replace<F: Folder, R: Randoms, C: Content<F>>(
     files_have_their_contents();
     files_are_what_they_give();
     encrypted_files_are_files();
-    let mut buffers = Buffers::new(alloc)?;
+    let mut buffers = Buffers::new(alloc, vault.content_keys())?;
     replace_entry(folder, work, vault, at, content, random, &mut buffers)
 }
 
@@ -305,17 +337,28 @@ fn place_over<F: Folder, R: Randoms, C: Content<F>>(
     ensures random { Blames result PutFault.Random (R.faults random.old) (R.faults random.new) }
 {
     is_free(folder, &slot.at)?;
+    let mut buffers: Option<Buffers> = None;
     place_in(
-        alloc, folder, work, vault, slot, front, name, content, random,
+        alloc,
+        folder,
+        work,
+        vault,
+        slot,
+        front,
+        name,
+        content,
+        random,
+        &mut buffers,
     )
 }
 
-// Makes a new file under a name in the directory at the front of a path.
+// Makes a new file under a name in the directory at the front of a path, which is kept.
 fn place_named<F: Folder, R: Randoms, C: Content<F>>(
     alloc: Global,
     folder: &mut F,
     work: &Work,
     vault: &Vault,
+    kept: &mut Kept,
     path: &PlainPath,
     front: &[Name],
     name: &Name,
@@ -323,6 +366,56 @@ fn place_named<F: Folder, R: Randoms, C: Content<F>>(
     random: &mut R,
 ) -> Result<(), PutFault>
     requires path { path.now ≡ front.now ++ name.now ∷ [] }
+    requires kept { IsKept vault.now (F.told folder.old) kept.old.dir }
+    requires may { MayMake (F.told folder.old) work.now vault.now.root }
+    requires ready { IsReady (C.reads content.old) (F.told folder.old) (C.coming content.old) }
+    requires elsewhere { ReadsElsewhere (C.reads content.old) work.now vault.now.root }
+    ensures made { PlacesFile New vault.now work.now front.now name.now (still_coming (C.reads content.old) (F.told folder.old) (C.coming content.old)) (still_coming (C.reads content.old) (F.told folder.old) (C.coming content.new))
+        (R.left random.old) (R.left random.new) (F.told folder.old) (F.told folder.new) result }
+    ensures kept { OnOk result (IsKept vault.now (F.told folder.new) kept.new.dir) }
+    ensures fault { IfErr result (λ fault. IsFileFault fault) }
+    ensures reads { C.reads content.new ≡ C.reads content.old }
+    ensures room { C.room content.new ≤ C.room content.old }
+    ensures lender { C.lender content.new ≡ C.lender content.old }
+    ensures failed { Blames result PutFault.Failed (F.faults folder.old) (F.faults folder.new) }
+    ensures source { Blames result PutFault.Source (C.faults content.old) (C.faults content.new) }
+    ensures random { Blames result PutFault.Random (R.faults random.old) (R.faults random.new) }
+{
+    let here = kept_or_entered(alloc, folder, vault, front, kept.dir.take())?;
+    let result = place_under(
+        alloc,
+        folder,
+        work,
+        vault,
+        &here.dir,
+        path,
+        front,
+        name,
+        content,
+        random,
+        &mut kept.buffers,
+    );
+    kept.dir = Some(here);
+    result
+}
+
+// Makes a new file under a name in a directory that is entered, which is that at the front of a path.
+fn place_under<F: Folder, R: Randoms, C: Content<F>>(
+    alloc: Global,
+    folder: &mut F,
+    work: &Work,
+    vault: &Vault,
+    dir: &DirPlace,
+    path: &PlainPath,
+    front: &[Name],
+    name: &Name,
+    content: &mut C,
+    random: &mut R,
+    buffers: &mut Option<Buffers>,
+) -> Result<(), PutFault>
+    requires path { path.now ≡ front.now ++ name.now ∷ [] }
+    requires key { FitsKey vault.now.vault dir.now.key }
+    requires dir { IsAt vault.now front.now dir.now (F.told folder.old) }
     requires may { MayMake (F.told folder.old) work.now vault.now.root }
     requires ready { IsReady (C.reads content.old) (F.told folder.old) (C.coming content.old) }
     requires elsewhere { ReadsElsewhere (C.reads content.old) work.now vault.now.root }
@@ -336,14 +429,14 @@ fn place_named<F: Folder, R: Randoms, C: Content<F>>(
     ensures source { Blames result PutFault.Source (C.faults content.old) (C.faults content.new) }
     ensures random { Blames result PutFault.Random (R.faults random.old) (R.faults random.new) }
 {
-    let slot = slot_at(alloc, folder, vault, path, front, name)?;
+    let slot = slot_at(alloc, folder, vault, dir, path, front, name)?;
     let _named = name.bytes();
     place_in(
-        alloc, folder, work, vault, &slot, front, name, content, random,
+        alloc, folder, work, vault, &slot, front, name, content, random, buffers,
     )
 }
 
-// Makes a new file where nothing stands.
+// Makes a new file where nothing stands. The buffers are kept.
 fn place_in<F: Folder, R: Randoms, C: Content<F>>(
     alloc: Global,
     folder: &mut F,
@@ -354,6 +447,7 @@ fn place_in<F: Folder, R: Randoms, C: Content<F>>(
     name: &Name,
     content: &mut C,
     random: &mut R,
+    kept: &mut Option<Buffers>,
 ) -> Result<(), PutFault>
     requires named { IsTrue (is_name name.now) }
     requires may { MayMake (F.told folder.old) work.now vault.now.root }
@@ -370,8 +464,8 @@ fn place_in<F: Folder, R: Randoms, C: Content<F>>(
     ensures source { Blames result PutFault.Source (C.faults content.old) (C.faults content.new) }
     ensures random { Blames result PutFault.Random (R.faults random.old) (R.faults random.new) }
 {
-    let mut buffers = Buffers::new(alloc)?;
-    match vault.kind() {
+    let mut buffers = kept_or_new(alloc, vault, kept.take())?;
+    let result = match vault.kind() {
         VaultKind::Gocryptfs => place_go(
             alloc,
             folder,
@@ -395,7 +489,9 @@ fn place_in<F: Folder, R: Randoms, C: Content<F>>(
             random,
             &mut buffers,
         ),
-    }
+    };
+    *kept = Some(buffers);
+    result
 }
 
 // In gocryptfs a long name's file comes first, and then the content file.

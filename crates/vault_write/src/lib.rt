@@ -8,11 +8,13 @@ pub mod directory;
 mod drawing;
 pub mod file;
 pub mod init;
+pub mod kept;
 pub mod laws;
 mod slot;
 mod stage;
 
 pub use content_writing::{Content, PutFault, SourceContent};
-pub use directory::place_dir;
-pub use file::{place_file, put};
+pub use directory::{place_dir, place_dir_keeping};
+pub use file::{place_file, place_file_keeping, put};
 pub use init::{init_cm, init_cm_combo, init_go};
+pub use kept::{Kept, KeptDir};

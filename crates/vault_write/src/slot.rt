@@ -1,19 +1,22 @@
 //! Where a new item is to stand, and whether something stands there.
-ghost use Rattle.std.specs.Prelude.{◌⊎◌, if◌then◌else◌, length, ◌≡◌, ◌≢◌, ◌∷◌, ◌++◌, [], ℕ, List, IfOk, IfErr, OnOk, None};
+ghost use Rattle.std.specs.Prelude.{◌⊎◌, if◌then◌else◌, length, ◌≡◌, ◌≢◌, ◌∷◌, ◌++◌, [], ℕ, List, IfOk, IfErr, OnOk, None, Option};
+ghost use Rattle.folder_spec.specs.Event.{Told};
 ghost use Rattle.folder_spec.specs.Path.{Path, child, parent};
 ghost use Rattle.folder_spec.specs.Seen.{IfSeen, under};
 ghost use Rattle.folder_spec.specs.View.{NoEntry, Folder, kind_found};
 ghost use Rattle.folder_model.specs.Answers.{CountsAbove};
-ghost use Rattle.vault_read.specs.Finding.{IsDirPlace};
+ghost use Rattle.plain_tree.specs.Order.{path_eq};
 ghost use Rattle.vault_read.specs.Looking.{small_file};
 ghost use Rattle.vault_read.specs.Opened.{FitsKey, IsCryptomator};
 ghost use Rattle.vault_spec.specs.Gocryptfs.{full_name, taken_unless};
 ghost use Rattle.vault_spec.specs.Making.{NewItem, Allows};
 ghost use Rattle.vault_spec.specs.Vault.{format_of};
+ghost use Rattle.vault_write.specs.Calls.{IsAt, IsKept};
 ghost use Rattle.vault_write.specs.Faults.{IsPlaceFault};
 ghost use Rattle.vault_write.specs.Filing.{IsOverFault, IsSlotOver};
 ghost use Rattle.vault_write.specs.Slots.{IsSlot, IsTakenAt, IsSideTaken, IsShelfTaken, IsHomeTaken, RefusesItem, CountsFailed, wants_text};
 
+use crate::kept::KeptDir;
 use content_writing::PutFault;
 use folder_model::{FPath, Folder, Kind};
 use folder_spec::FolderFault;
@@ -59,17 +62,51 @@ fn entered<F: Folder>(
     folder: &mut F,
     vault: &Vault,
     front: &[Name],
-) -> Result<DirPlace, PutFault>
+) -> Result<KeptDir, PutFault>
     ensures told { F.told folder.new ≡ F.told folder.old }
-    ensures place { IfOk result (λ place. IfSeen (F.told folder.old) (λ v. IsDirPlace vault.now.root (format_of vault.now.vault) (under vault.now.root v) front.now place)) }
-    ensures key { IfOk result (λ place. FitsKey vault.now.vault place.key) }
+    ensures path { IfOk result (λ here. here.path ≡ front.now) }
+    ensures place { IfOk result (λ here. IsAt vault.now front.now here.dir (F.told folder.old)) }
+    ensures key { IfOk result (λ here. FitsKey vault.now.vault here.dir.key) }
     ensures refused { IfErr result (λ fault. (name : List ℕ) (item : NewItem) → RefusesItem vault.now front.now name item [] (F.told folder.old) fault) }
     ensures over { IfErr result (λ fault. IsOverFault vault.now front.now (F.told folder.old) fault) }
     ensures kind { IfErr result (λ fault. IsPlaceFault fault) }
     ensures counts { CountsFailed PutFault.Failed (F.faults folder.old) (F.faults folder.new) result }
 {
-    let front = path_to(alloc, front)?;
-    Ok(enter(alloc, folder, vault, &front)?)
+    let path = path_to(alloc, front)?;
+    let dir = enter(alloc, folder, vault, &path)?;
+    Ok(KeptDir { path, dir })
+}
+
+// The directory at a plain path: the one that is kept, where that is it, or else it is entered.
+pub(crate) fn kept_or_entered<F: Folder>(
+    alloc: Global,
+    folder: &mut F,
+    vault: &Vault,
+    front: &[Name],
+    kept: Option<KeptDir>,
+) -> Result<KeptDir, PutFault>
+    requires { IsKept vault.now (F.told folder.old) kept }
+    ensures told { F.told folder.new ≡ F.told folder.old }
+    ensures path { IfOk result (λ here. here.path ≡ front.now) }
+    ensures place { IfOk result (λ here. IsAt vault.now front.now here.dir (F.told folder.old)) }
+    ensures key { IfOk result (λ here. FitsKey vault.now.vault here.dir.key) }
+    ensures refused { IfErr result (λ fault. (name : List ℕ) (item : NewItem) → RefusesItem vault.now front.now name item [] (F.told folder.old) fault) }
+    ensures kind { IfErr result (λ fault. IsPlaceFault fault) }
+    ensures counts { CountsFailed PutFault.Failed (F.faults folder.old) (F.faults folder.new) result }
+{
+    if let Some(here) = kept {
+        if is_path(&here.path, front) {
+            return Ok(here);
+        }
+    }
+    entered(alloc, folder, vault, front)
+}
+
+// Whether these are the names of a path.
+fn is_path(path: &PlainPath, names: &[Name]) -> bool
+    ensures { result ≡ path_eq path.now names.now }
+{
+    path.names() == names
 }
 
 // The vault allows the last name of a path.
@@ -141,24 +178,27 @@ pub(crate) fn is_free<F: Folder>(folder: &mut F, at: &FPath) -> Result<(), PutFa
     }
 }
 
-// The place of a new item under the last name of a path, whose entry is free. The directory that is to have it is entered first, and
-// then the name is tested.
+// The place of a new item under the last name of a path in the directory that is entered. The name is tested, and then whether its entry
+// is free.
 pub(crate) fn slot_at<F: Folder>(
     alloc: Global,
     folder: &mut F,
     vault: &Vault,
+    dir: &DirPlace,
     path: &PlainPath,
     front: &[Name],
     name: &Name,
 ) -> Result<Slot, PutFault>
-    requires { path.now ≡ front.now ++ name.now ∷ [] }
+    requires path { path.now ≡ front.now ++ name.now ∷ [] }
+    requires key { FitsKey vault.now.vault dir.now.key }
+    requires dir { IsAt vault.now front.now dir.now (F.told folder.old) }
     ensures told { F.told folder.new ≡ F.told folder.old }
     ensures slot { IfOk result (λ slot. IfSeen (F.told folder.old) (λ v. IsSlot vault.now (format_of vault.now.vault) front.now name.now (under vault.now.root v) slot.at slot.side slot.full)) }
     ensures refused { IfErr result (λ fault. (item : NewItem) → RefusesItem vault.now front.now name.now item [] (F.told folder.old) fault) }
     ensures kind { IfErr result (λ fault. IsPlaceFault fault) }
     ensures counts { CountsFailed PutFault.Failed (F.faults folder.old) (F.faults folder.new) result }
 {
-    let slot = slot_over(alloc, folder, vault, path, front, name)?;
+    let slot = slot_under(alloc, vault, dir, path, front, name)?;
     is_free(folder, &slot.at)?;
     Ok(slot)
 }
@@ -275,8 +315,29 @@ pub(crate) fn slot_over<F: Folder>(
     ensures kind { IfErr result (λ fault. IsPlaceFault fault) }
     ensures counts { CountsFailed PutFault.Failed (F.faults folder.old) (F.faults folder.new) result }
 {
+    let here = entered(alloc, folder, vault, front)?;
+    Ok(slot_under(alloc, vault, &here.dir, path, front, name)?)
+}
+
+// The place under the last name of a path in a directory, whatever stands there and whatever a folder tells in which that is the
+// directory at the front of the path. The name is tested.
+fn slot_under(
+    alloc: Global,
+    vault: &Vault,
+    dir: &DirPlace,
+    path: &PlainPath,
+    front: &[Name],
+    name: &Name,
+) -> Result<Slot, PutFault>
+    requires path { path.now ≡ front.now ++ name.now ∷ [] }
+    requires key { FitsKey vault.now.vault dir.now.key }
+    ensures slot { IfOk result (λ slot. (told : Option Told) → IsAt vault.now front.now dir.now told → IsSlotOver vault.now front.now name.now told slot.at slot.side slot.full) }
+    ensures refused { IfErr result (λ fault. (told : Option Told) → IsAt vault.now front.now dir.now told → (item : NewItem) → RefusesItem vault.now front.now name.now item [] told fault) }
+    ensures over { IfErr result (λ fault. (told : Option Told) → IsOverFault vault.now front.now told fault) }
+    ensures kind { IfErr result (λ fault. IsPlaceFault fault) }
+    ensures memory { IfErr result (λ fault. fault ≢ PutFault.Failed) }
+{
     what_is_found_stands();
-    let dir = entered(alloc, folder, vault, front)?;
     allow(vault, path, name)?;
-    Ok(slot_in(alloc, vault, &dir, name)?)
+    Ok(slot_in(alloc, vault, dir, name)?)
 }

@@ -54,8 +54,8 @@ returns-in_err-gather g c =
           (omega arith, λ same. absurd (gathers_undrawn _ _ _ _ c.in_err-gather.field-0.0 e.gathered (let is : c.in_err-gather.field-0.0 ≡ put.Random = cc same in is)));
     }
 
-pub returns-in_err-encoder : goal.returns-in_err-encoder
-returns-in_err-encoder g c =
+pub returns-in_err-begin_content : goal.returns-in_err-begin_content
+returns-in_err-begin_content g c =
     let told = g.F.Folder.told c.args.folder.now in
     let stream = g.R.Randoms.left c.args.random.now in
     let still = still_coming (g.C.Content.reads c.args.content.now) told in
@@ -63,23 +63,23 @@ returns-in_err-encoder g c =
     let full : c.full-full.result ≡ (format_of c.args.keys).full_size = full_at c.args.keys c.layout.result c.full-full.result c.layout.ensures c.full-full.ensures in
     let h : Gathers (format_of c.args.keys).full_size c.gather.new.plain w.coming (still (g.C.Content.coming c.gather.new.content)) (Ok c.in_ok-gather.field-0) =
     subst (λ (n : ℕ). Gathers n c.gather.new.plain w.coming (still (g.C.Content.coming c.gather.new.content)) (Ok c.in_ok-gather.field-0)) full c.in_ok-gather.ensures.gathered in
-    let by_fault = c.from_residual-in_err-encoder.ensures.1 in
-    let p = err_from_is_err_and c.from_residual-in_err-encoder.result by_fault in
+    let by_fault = c.from_residual-in_err-begin_content.ensures.1 in
+    let p = err_from_is_err_and c.from_residual-in_err-begin_content.result by_fault in
     let e = c.in_ok-gather.ensures in
-    let begun = c.in_err-encoder.ensures in
+    let begun = c.in_err-begin_content.ensures in
     record {
       written = rw (p.1, p.2)
           (begin_fails w (some_full c.args.keys) c.gather.new.plain (still (g.C.Content.coming c.gather.new.content)) (g.F.Folder.told c.gather.new.folder) (g.F.Folder.told c.begin_content.new.folder)
-          (g.R.Randoms.left c.begin_content.new.random) c.len.result c.len.ensures.size c.in_ok-gather.ensures.told h c.in_err-encoder.field-0.0 c.in_err-encoder.ensures.begun);
+          (g.R.Randoms.left c.begin_content.new.random) c.len.result c.len.ensures.size c.in_ok-gather.ensures.told h c.begin_content.new.encoder c.in_err-begin_content.field-0.0 c.in_err-begin_content.ensures.begun);
       reads = e.reads;
       room = omega (arith, e.room);
       lender = e.lender;
-      failed = blames_at c.from_residual-in_err-encoder.result c.in_err-encoder.field-0.0 put.Failed _ _ by_fault
-          (omega (arith, e.failed.0, begun.failed.0), λ same. rose_since _ _ _ e.failed.0 (begun.failed.1 (let is : c.in_err-encoder.field-0.0 ≡ put.Failed = cc same in ap Err is)));
-      source = blames_at c.from_residual-in_err-encoder.result c.in_err-encoder.field-0.0 put.Source _ _ by_fault
-          (e.source.0, λ same. absurd (stores_unread _ _ c.in_err-encoder.field-0.0 begun.begun.ends (let is : c.in_err-encoder.field-0.0 ≡ put.Source = cc same in is)));
-      random = blames_at c.from_residual-in_err-encoder.result c.in_err-encoder.field-0.0 put.Random _ _ by_fault
-          (begun.random.0, λ same. begun.random.1 (let is : c.in_err-encoder.field-0.0 ≡ put.Random = cc same in ap Err is));
+      failed = blames_at c.from_residual-in_err-begin_content.result c.in_err-begin_content.field-0.0 put.Failed _ _ by_fault
+          (omega (arith, e.failed.0, begun.failed.0), λ same. rose_since _ _ _ e.failed.0 (begun.failed.1 (let is : c.in_err-begin_content.field-0.0 ≡ put.Failed = cc same in ap Err is)));
+      source = blames_at c.from_residual-in_err-begin_content.result c.in_err-begin_content.field-0.0 put.Source _ _ by_fault
+          (e.source.0, λ same. absurd (stores_unread _ _ c.in_err-begin_content.field-0.0 begun.begun.ends (let is : c.in_err-begin_content.field-0.0 ≡ put.Source = cc same in is)));
+      random = blames_at c.from_residual-in_err-begin_content.result c.in_err-begin_content.field-0.0 put.Random _ _ by_fault
+          (begun.random.0, λ same. begun.random.1 (let is : c.in_err-begin_content.field-0.0 ≡ put.Random = cc same in ap Err is));
     }
 
 pub chunks-init : goal.chunks-init
@@ -92,11 +92,11 @@ chunks-init g c =
     let h : Gathers (format_of c.args.keys).full_size c.gather.new.plain w.coming (still (g.C.Content.coming c.gather.new.content)) (Ok c.in_ok-gather.field-0) =
     subst (λ (n : ℕ). Gathers n c.gather.new.plain w.coming (still (g.C.Content.coming c.gather.new.content)) (Ok c.in_ok-gather.field-0)) full c.in_ok-gather.ensures.gathered in
     let e = c.in_ok-gather.ensures in
-    let begun = c.in_ok-encoder.ensures in
-    let first : c.in_ok-encoder.encoder.number ≡ 0 = begun.begun.ends.first in
+    let begun = c.in_ok-begin_content.ensures in
+    let first : c.begin_content.new.encoder.number ≡ 0 = begun.begun.ends.first in
     record {
       underway = has_begun w (some_full c.args.keys) c.gather.new.plain (still (g.C.Content.coming c.gather.new.content)) (g.F.Folder.told c.gather.new.folder) (g.F.Folder.told c.begin_content.new.folder)
-          (g.R.Randoms.left c.begin_content.new.random) c.len.result c.len.ensures.size e.told h c.in_ok-encoder.encoder (omega (arith, e.size, full)) begun.begun;
+          (g.R.Randoms.left c.begin_content.new.random) c.len.result c.len.ensures.size e.told h c.begin_content.new.encoder (omega (arith, e.size, full)) begun.begun;
       reads = e.reads;
       ready = subst (λ (r : Option Path). IsReady r told (g.C.Content.coming c.gather.new.content)) e.reads
           (subst (λ (t : Option Told). IsReady (g.C.Content.reads c.gather.new.content) t (g.C.Content.coming c.gather.new.content)) e.told e.ready);

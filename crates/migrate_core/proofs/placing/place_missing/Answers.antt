@@ -17,6 +17,7 @@ use Rattle.migrate_core.specs.Copying.{Enters, HasCopied}
 use Rattle.migrate_core.proofs.Sharing.{next_lacks, none_filled, one_filled, shares_before, stops_more}
 use Rattle.migrate_core.specs.Sharing.{IsFilled, Lacks, SharesFrom}
 use Rattle.migrate_core.specs.Faults.{is_of_begin}
+use Rattle.vault_write.specs.Calls.{IsKept}
 use Rattle.migrate_core.proofs.placing.place_missing.Goals as goal
 use Rattle.migrate_core.proofs.placing.place_missing.Goals.{then-branch, else-branch}
 use Rattle.folder_spec.proofs.Seen.{one_view}
@@ -38,6 +39,7 @@ loop-item-init g c =
           (c.draws_compose.ensures.none (g.R.Randoms.left c.args.random.now)) (only_nowhere (BringsOnlyTo c.args.sides.now.target.root (λ at. ⊥)) (λ file. Contains [] file) told told refl);
       copied = λ v w is_v is_w h. none_copied c.args.sides.now.names c.args.sides.now.source c.args.sides.now.target c.args.there.now v w (one_view told w v is_w is_v) h;
       none = λ all. refl;
+      kept = subst (λ dir. IsKept c.args.sides.now.target told dir) (sym c.new.ensures) tt;
       fills = λ v w is_v is_w h. none_filled c.args.sides.now.target v w (one_view told w v is_w is_v) h.1;
     }
 
@@ -160,6 +162,7 @@ loop-item-preserved g c =
           let mid = seen_before _ here told' c.place_missing_one.ensures.moves w is_w in
           one_filled rule from to items k item v mid.0 w c.loop-item-test.true c.item-item.is (i.fills v mid.0 is_v mid.1 h)
           (c.in_ok-place_missing_one.ensures.copies mid.0 w mid.1 is_w (there_copied rule from to there (take k items) mid.0 (i.copied v mid.0 is_v mid.1 h.0)));
+      kept = c.in_ok-place_missing_one.ensures.kept;
       none = λ all. c.place_missing_one.ensures.none (all c.item-item.result (c.loop-item.item-index, c.loop-item-test.true, sym c.item-item.is)) ∙ i.none all;
     }
 

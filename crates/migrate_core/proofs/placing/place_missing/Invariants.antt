@@ -4,6 +4,7 @@ use Rattle.migration_spec.specs.Alone.{Begun}
 use Rattle.vault_walk.specs.Survey.{IsOrdered}
 use Rattle.content_writing.specs.Making.{is_apart}
 use Rattle.work_folder.specs.Entering.{IsReady}
+use Rattle.vault_write.specs.Calls.{IsKept}
 use Rattle.migrate_core.specs.Copying.{CopiesAll}
 use Rattle.migrate_core.specs.Leading.{HasLed}
 use Rattle.migrate_core.specs.Moved.{lacking}
@@ -26,5 +27,6 @@ invariant-loop-item g l = record {
       (g.F.Folder.told l.initial.folder) (g.F.Folder.told l.folder);
   copied : CopiesAll l.sides.names l.sides.source l.sides.target l.there (l.there ++ take l.item-index l.items) (g.F.Folder.told l.initial.folder) (g.F.Folder.told l.folder);
   fills : FillsOnly l.sides.names l.sides.source l.sides.target l.there (take l.item-index l.items) (g.F.Folder.told l.initial.folder) (g.F.Folder.told l.folder);
+  kept : IsKept l.sides.target (g.F.Folder.told l.folder) l.carried.kept.dir;
   none : StandAll l.items l.there → g.F.Folder.told l.folder ≡ g.F.Folder.told l.initial.folder;
 }

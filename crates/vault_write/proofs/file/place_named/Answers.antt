@@ -1,19 +1,30 @@
 use Rattle.vault_spec.specs.Making.{NewFile}
 use Rattle.vault_write.specs.Calls.{New}
+use Rattle.vault_write.specs.Slots.{placing}
 use Rattle.vault_write.proofs.FileMade.{file_refused, placed_at}
+use Rattle.vault_write.proofs.Keeping.{kept_on}
 use Rattle.vault_write.proofs.file.place_named.Goals as goal
 
-pub returns-in_err-slot-clause-made : goal.returns-in_err-slot-clause-made
-returns-in_err-slot-clause-made g c = file_refused New c.in_err-slot.field-0.0 c.from_residual.ensures.1 c.slot_at.ensures.told (λ content. c.in_err-slot.ensures.refused (NewFile content) c.args.work.now)
+pub returns-in_err-here-clause-made : goal.returns-in_err-here-clause-made
+returns-in_err-here-clause-made g c =
+    file_refused New c.in_err-here.field-0.0 c.from_residual.ensures.1 c.kept_or_entered.ensures.told (λ content. c.in_err-here.ensures.refused c.args.name.now (NewFile content) c.args.work.now)
 
-pub place_in-requires-clause-may : goal.place_in-requires-clause-may
-place_in-requires-clause-may g c = rw c.slot_at.ensures.told c.requires.may
+pub place_under-result-requires-clause-dir : goal.place_under-result-requires-clause-dir
+place_under-result-requires-clause-dir g c = rw c.kept_or_entered.ensures.told c.in_ok-here.ensures.place
 
-pub place_in-requires-clause-ready : goal.place_in-requires-clause-ready
-place_in-requires-clause-ready g c = rw c.slot_at.ensures.told c.requires.ready
+pub place_under-result-requires-clause-may : goal.place_under-result-requires-clause-may
+place_under-result-requires-clause-may g c = rw c.kept_or_entered.ensures.told c.requires.may
 
-pub place_in-requires-clause-slot : goal.place_in-requires-clause-slot
-place_in-requires-clause-slot g c = rw c.slot_at.ensures.told c.in_ok-slot.ensures.slot
+pub place_under-result-requires-clause-ready : goal.place_under-result-requires-clause-ready
+place_under-result-requires-clause-ready g c = rw c.kept_or_entered.ensures.told c.requires.ready
 
 pub returns-clause-made : goal.returns-clause-made
-returns-clause-made g c = placed_at (g.C.Content.reads c.args.content.now) (g.C.Content.coming c.args.content.now) (g.C.Content.coming c.place_in.new.content) c.slot_at.ensures.told c.place_in.ensures.made
+returns-clause-made g c =
+    placed_at (g.C.Content.reads c.args.content.now) (g.C.Content.coming c.args.content.now) (g.C.Content.coming c.place_under-result.new.content) c.kept_or_entered.ensures.told c.place_under-result.ensures.made
+
+pub returns-clause-kept : goal.returns-clause-kept
+returns-clause-kept g c =
+    let made = c.place_under-result.ensures.made in
+    kept_on New (placing c.args.vault.now c.args.work.now c.args.front.now c.args.name.now (NewFile made.writing.content)) made.writing.ending made.writing.drawn
+    (g.F.Folder.told c.kept_or_entered.new.folder) (g.F.Folder.told c.place_under-result.new.folder) c.in_ok-here.here c.place_under-result.result made.one
+    c.in_ok-here.ensures.key c.in_ok-here.ensures.path (rw c.kept_or_entered.ensures.told c.in_ok-here.ensures.place)

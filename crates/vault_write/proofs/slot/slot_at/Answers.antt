@@ -1,23 +1,19 @@
-use Rattle.std.proofs.Common.{◌≡◌, subst, []}
+use Rattle.std.proofs.Common.{[]}
 use Rattle.folder_model.proofs.ByFault.{at_fault}
-use Rattle.folder_spec.specs.Seen.{IfSeen}
-use Rattle.folder_spec.specs.View.{NoEntry}
 use Rattle.vault_spec.specs.Making.{NewItem}
-use Rattle.vault_write.specs.Slots.{IsTakenAt, RefusesItem}
+use Rattle.vault_write.specs.Slots.{RefusesItem}
 use Rattle.vault_write.proofs.slot.slot_at.Goals as goal
 
 pub returns-in_err-slot-clause-refused : goal.returns-in_err-slot-clause-refused
 returns-in_err-slot-clause-refused g c =
     at_fault c.from_residual.result (λ fault. (item : NewItem) → RefusesItem c.args.vault.now c.args.front.now c.args.name.now item [] (g.F.Folder.told c.args.folder.now) fault) c.in_err-slot.field-0.0
-    c.from_residual.ensures.1 c.in_err-slot.ensures.refused
+    c.from_residual.ensures.1 (c.in_err-slot.ensures.refused (g.F.Folder.told c.args.folder.now) c.requires.dir)
 
 pub returns-in_err-is_free-clause-refused : goal.returns-in_err-is_free-clause-refused
 returns-in_err-is_free-clause-refused g c =
     at_fault c.from_residual-in_err-is_free.result (λ fault. (item : NewItem) → RefusesItem c.args.vault.now c.args.front.now c.args.name.now item [] (g.F.Folder.told c.args.folder.now) fault) c.in_err-is_free.field-0.0
     c.from_residual-in_err-is_free.ensures.1
-    (λ item. c.in_ok-slot.ensures.slot.taken item c.in_err-is_free.field-0.0
-    (subst (λ t. IsTakenAt c.in_ok-slot.slot.at t c.in_err-is_free.field-0.0) c.slot_over.ensures.told c.in_err-is_free.ensures.taken))
+    (λ item. (c.in_ok-slot.ensures.slot (g.F.Folder.told c.args.folder.now) c.requires.dir).taken item c.in_err-is_free.field-0.0 c.in_err-is_free.ensures.taken)
 
 pub returns-clause-slot : goal.returns-clause-slot
-returns-clause-slot g c =
-    c.in_ok-slot.ensures.slot.free (subst (λ t. IfSeen t (λ v. v c.in_ok-slot.slot.at ≡ NoEntry)) c.slot_over.ensures.told c.in_ok-is_free.ensures.free)
+returns-clause-slot g c = (c.in_ok-slot.ensures.slot (g.F.Folder.told c.args.folder.now) c.requires.dir).free c.in_ok-is_free.ensures.free

@@ -1,37 +1,26 @@
 use Rattle.std.proofs.Common.{[]}
 use Rattle.folder_model.proofs.ByFault.{at_fault}
-use Rattle.vault_spec.specs.Making.{NewItem, Allows}
-use Rattle.vault_spec.specs.Vault.{format_of}
+use Rattle.vault_spec.specs.Making.{NewItem}
 use Rattle.vault_write.specs.Filing.{IsOverFault}
 use Rattle.vault_write.specs.Slots.{RefusesItem}
-use Rattle.vault_write.proofs.Found.{not_allowed, slot_found, slot_taken}
-use Rattle.vault_write.proofs.PutMade.{not_allowed_over}
 use Rattle.vault_write.proofs.slot.slot_over.Goals as goal
 
-pub returns-in_err-dir-clause-refused : goal.returns-in_err-dir-clause-refused
-returns-in_err-dir-clause-refused g c =
-    at_fault c.from_residual.result (λ fault. (item : NewItem) → RefusesItem c.args.vault.now c.args.front.now c.args.name.now item [] (g.F.Folder.told c.args.folder.now) fault) c.in_err-dir.field-0.0
-    c.from_residual.ensures.1 (λ item. c.in_err-dir.ensures.refused c.args.name.now item)
+pub returns-in_err-here-clause-refused : goal.returns-in_err-here-clause-refused
+returns-in_err-here-clause-refused g c =
+    at_fault c.from_residual.result (λ fault. (item : NewItem) → RefusesItem c.args.vault.now c.args.front.now c.args.name.now item [] (g.F.Folder.told c.args.folder.now) fault) c.in_err-here.field-0.0
+    c.from_residual.ensures.1 (λ item. c.in_err-here.ensures.refused c.args.name.now item)
 
-pub returns-in_err-dir-clause-over : goal.returns-in_err-dir-clause-over
-returns-in_err-dir-clause-over g c = at_fault c.from_residual.result (IsOverFault c.args.vault.now c.args.front.now (g.F.Folder.told c.args.folder.now)) c.in_err-dir.field-0.0 c.from_residual.ensures.1 c.in_err-dir.ensures.over
+pub returns-in_err-here-clause-over : goal.returns-in_err-here-clause-over
+returns-in_err-here-clause-over g c = at_fault c.from_residual.result (IsOverFault c.args.vault.now c.args.front.now (g.F.Folder.told c.args.folder.now)) c.in_err-here.field-0.0 c.from_residual.ensures.1 c.in_err-here.ensures.over
 
-pub returns-in_err-allow-clause-refused : goal.returns-in_err-allow-clause-refused
-returns-in_err-allow-clause-refused g c =
-    at_fault c.from_residual-in_err-allow.result (λ fault. (item : NewItem) → RefusesItem c.args.vault.now c.args.front.now c.args.name.now item [] (g.F.Folder.told c.args.folder.now) fault) c.in_err-allow.field-0.0
-    c.from_residual-in_err-allow.ensures.1
-    (λ item. not_allowed c.what_is_found_stands.ensures.enters c.args.vault.now c.args.front.now c.args.name.now c.args.path.now c.in_ok-dir.dir (g.F.Folder.told c.args.folder.now) item c.in_err-allow.field-0.0 c.requires
-    c.in_ok-dir.ensures.place c.in_err-allow.ensures.refused)
+pub returns-in_err-slot_under-clause-refused : goal.returns-in_err-slot_under-clause-refused
+returns-in_err-slot_under-clause-refused g c =
+    at_fault c.from_residual-in_err-slot_under.result (λ fault. (item : NewItem) → RefusesItem c.args.vault.now c.args.front.now c.args.name.now item [] (g.F.Folder.told c.args.folder.now) fault) c.in_err-slot_under.field-0.0
+    c.from_residual-in_err-slot_under.ensures.1 (c.in_err-slot_under.ensures.refused (g.F.Folder.told c.args.folder.now) c.in_ok-here.ensures.place)
 
-pub returns-in_err-allow-clause-over : goal.returns-in_err-allow-clause-over
-returns-in_err-allow-clause-over g c = at_fault c.from_residual-in_err-allow.result (IsOverFault c.args.vault.now c.args.front.now (g.F.Folder.told c.args.folder.now)) c.in_err-allow.field-0.0 c.from_residual-in_err-allow.ensures.1
-    (not_allowed_over c.args.vault.now c.args.front.now (g.F.Folder.told c.args.folder.now) c.args.path.now (¬ Allows (format_of c.args.vault.now.vault) c.args.name.now) c.in_err-allow.field-0.0 c.in_err-allow.ensures.refused)
+pub returns-in_err-slot_under-clause-over : goal.returns-in_err-slot_under-clause-over
+returns-in_err-slot_under-clause-over g c = at_fault c.from_residual-in_err-slot_under.result (IsOverFault c.args.vault.now c.args.front.now (g.F.Folder.told c.args.folder.now)) c.in_err-slot_under.field-0.0 c.from_residual-in_err-slot_under.ensures.1
+    (c.in_err-slot_under.ensures.over (g.F.Folder.told c.args.folder.now))
 
 pub returns-clause-slot : goal.returns-clause-slot
-returns-clause-slot g c = record {
-  allowed = c.in_ok-allow.ensures.allowed;
-  free = slot_found c.what_is_found_stands.ensures.enters c.args.vault.now c.args.front.now c.args.name.now c.in_ok-dir.dir (g.F.Folder.told c.args.folder.now) c.in_ok-dir.ensures.place
-      c.in_ok-slot_in.field-0.at c.in_ok-slot_in.field-0.side c.in_ok-slot_in.field-0.full c.in_ok-allow.ensures.allowed c.in_ok-slot_in.ensures.at c.in_ok-slot_in.ensures.side c.in_ok-slot_in.ensures.full;
-  taken = λ item fault taken. slot_taken c.what_is_found_stands.ensures.enters c.args.vault.now c.args.front.now c.args.name.now c.in_ok-dir.dir (g.F.Folder.told c.args.folder.now) c.in_ok-dir.ensures.place
-      c.in_ok-slot_in.field-0.at c.in_ok-slot_in.field-0.side c.in_ok-slot_in.field-0.full c.in_ok-allow.ensures.allowed c.in_ok-slot_in.ensures.at c.in_ok-slot_in.ensures.side c.in_ok-slot_in.ensures.full item fault taken;
-}
+returns-clause-slot g c = c.in_ok-slot_under.ensures.slot (g.F.Folder.told c.args.folder.now) c.in_ok-here.ensures.place

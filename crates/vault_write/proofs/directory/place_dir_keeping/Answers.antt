@@ -4,12 +4,13 @@ use Rattle.vault_write.specs.Calls.{New}
 use Rattle.vault_write.specs.Faults.{IsDirectoryFault}
 use Rattle.vault_write.proofs.DirectoryPlaced.{last_name, named_made, no_names, root_made}
 use Rattle.vault_write.proofs.ItemMade.{IsRootFault, by_root, root_blames}
-use Rattle.vault_write.proofs.directory.place_dir.Goals as goal
+use Rattle.vault_write.proofs.directory.place_dir_keeping.Goals as goal
 
 pub returns-in-empty : goal.returns-in-empty
 returns-in-empty g c =
     let is = subst (λ at. IsRootFault New at c.taken.result) c.root.ensures c.taken.ensures in
     record {
+      kept = tt;
       made = root_made c.args.vault.now c.args.work.now c.args.path.now (g.R.Randoms.left c.args.random.now) (g.F.Folder.told c.args.folder.now) c.taken.result (no_names c.names.result.now c.args.path.now c.in-empty.len_below c.names.ensures.value) is;
       fault = by_root New c.args.vault.now.root c.taken.result IsDirectoryFault tt tt is;
       failed = (root_blames New c.args.vault.now.root c.taken.result puts.Failed tt is).1;

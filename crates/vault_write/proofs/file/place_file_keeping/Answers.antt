@@ -4,13 +4,14 @@ use Rattle.vault_write.specs.Calls.{New}
 use Rattle.vault_write.proofs.DirectoryPlaced.{last_name, no_names}
 use Rattle.vault_write.proofs.FileMade.{named_file, root_file, root_fits}
 use Rattle.vault_write.proofs.ItemMade.{IsRootFault, root_blames}
-use Rattle.vault_write.proofs.file.place_file.Goals as goal
+use Rattle.vault_write.proofs.file.place_file_keeping.Goals as goal
 
 pub returns-in-empty : goal.returns-in-empty
 returns-in-empty g c =
     let none = no_names c.names.result.now c.args.path.now c.in-empty.len_below c.names.ensures.value in
     let is = subst (λ at. IsRootFault New at c.taken.result) c.root.ensures c.taken.ensures in
     record {
+      kept = tt;
       made = root_file New none is;
       fault = root_fits New c.args.vault.now.root c.taken.result is;
       reads = refl;

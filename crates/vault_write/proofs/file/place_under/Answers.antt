@@ -1,0 +1,19 @@
+use Rattle.vault_spec.specs.Making.{NewFile}
+use Rattle.vault_write.specs.Calls.{New}
+use Rattle.vault_write.proofs.FileMade.{file_refused, placed_at}
+use Rattle.vault_write.proofs.file.place_under.Goals as goal
+
+pub returns-in_err-slot-clause-made : goal.returns-in_err-slot-clause-made
+returns-in_err-slot-clause-made g c = file_refused New c.in_err-slot.field-0.0 c.from_residual.ensures.1 c.slot_at.ensures.told (λ content. c.in_err-slot.ensures.refused (NewFile content) c.args.work.now)
+
+pub place_in-requires-clause-may : goal.place_in-requires-clause-may
+place_in-requires-clause-may g c = rw c.slot_at.ensures.told c.requires.may
+
+pub place_in-requires-clause-ready : goal.place_in-requires-clause-ready
+place_in-requires-clause-ready g c = rw c.slot_at.ensures.told c.requires.ready
+
+pub place_in-requires-clause-slot : goal.place_in-requires-clause-slot
+place_in-requires-clause-slot g c = rw c.slot_at.ensures.told c.in_ok-slot.ensures.slot
+
+pub returns-clause-made : goal.returns-clause-made
+returns-clause-made g c = placed_at (g.C.Content.reads c.args.content.now) (g.C.Content.coming c.args.content.now) (g.C.Content.coming c.place_in.new.content) c.slot_at.ensures.told c.place_in.ensures.made

@@ -46,14 +46,36 @@ pub fn holds_all<F: Folder>(
     ensures grows { F.faults folder.old ≤ F.faults folder.new }
     ensures failed { result ≡ Err MatchFault.Failed → CountRose (F.faults folder.old) (F.faults folder.new) }
 {
+    let mut kept = None;
+    compare_items(alloc, folder, &mut kept, a, a_plan, b, b_plan)
+}
+
+// Goes through the items as `holds_all` does. What was opened for those before serves again.
+fn compare_items<F: Folder>(
+    alloc: Global,
+    folder: &mut F,
+    kept: &mut Option<Pair>,
+    a: &Vault,
+    a_plan: &Plan,
+    b: &Vault,
+    b_plan: &Plan,
+) -> Result<Match, MatchFault>
+    requires a { IfSeen (F.told folder.old) (λ v. IsMatchable v a_plan.now.items) }
+    requires b { IfSeen (F.told folder.old) (λ v. IsMatchable v b_plan.now.items) }
+    ensures told { F.told folder.new ≡ F.told folder.old }
+    ensures answers { (v : View) → IsSeen (F.told folder.old) v
+        → Answers (matched (format_of a.now.vault).content a_plan.now.items (format_of b.now.vault).content b_plan.now.items v) result }
+    ensures fault { IfErr result (λ fault. CanFault fault) }
+    ensures grows { F.faults folder.old ≤ F.faults folder.new }
+    ensures failed { result ≡ Err MatchFault.Failed → CountRose (F.faults folder.old) (F.faults folder.new) }
+{
     let items = a_plan.items.as_slice();
     let others = b_plan.items.as_slice();
     let mut rest = others;
-    let mut kept = None;
     for item in items {
         rest = from_path(rest, &item.path);
         let other = first_at(rest, &item.path);
-        if let Some(how) = difference(alloc, folder, &mut kept, a, item, b, other)? {
+        if let Some(how) = difference(alloc, folder, kept, a, item, b, other)? {
             return Ok(Match::Differs(item.path.copy()?, how));
         }
     }

@@ -6,7 +6,7 @@ use Rattle.vault_spec.specs.Vault.{format_of}
 use Rattle.tree_match.specs.Comparing.{Is}
 use Rattle.tree_match.specs.Matching.{first_differing, first_further, held_by, item_with}
 use Rattle.tree_match.proofs.Merging.{Merges}
-use Rattle.tree_match.proofs.matching.holds_all.Given as goal
+use Rattle.tree_match.proofs.matching.compare_items.Given as goal
 
 -- what was gone through is in the other vault, as it is here
 abbrev pub invariant-loop-item : goal.invariant-loop-item

@@ -13,7 +13,7 @@ use Rattle.tree_match.specs.declared.answer.How.{How}
 use Rattle.tree_match.specs.declared.answer.Match.TheVariants.{Differs}
 use Rattle.tree_match.proofs.Differing.{differs_one, holds_none, holds_one, stops_one}
 use Rattle.tree_match.proofs.Merging.{found_in, looks_up, merges_all}
-use Rattle.tree_match.proofs.matching.holds_all.Goals as goal
+use Rattle.tree_match.proofs.matching.compare_items.Goals as goal
 
 pub loop-item-init : goal.loop-item-init
 loop-item-init g c = record {

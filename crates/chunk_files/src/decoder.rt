@@ -8,7 +8,7 @@ use crate::header::read_header;
 use crate::held::Held;
 use crate::keys::ContentKeys;
 use crate::step::Step;
-use crate::told::{Told, boxed, untold};
+use crate::told::{Told, boxed, expand, untold};
 use std::alloc::{AllocError, Global};
 use std::marker::Model;
 
@@ -40,7 +40,7 @@ impl Model for Decoder {
 }
 
 impl Decoder {
-    /// A decoder that was fed nothing. It takes one buffer of 32,816 bytes and room for the tables of a key, and no memory after
+    /// A decoder that was fed nothing. It takes one buffer of 32,816 bytes and room for the tables of two keys, and no memory after
     /// that.
     pub fn start(alloc: Global, keys: ContentKeys) -> Result<Decoder, AllocError>
         ensures { IfOk result (λ d. d ≡ started keys) }
@@ -64,21 +64,9 @@ impl Decoder {
         ensures { self.new ≡ started keys }
     {
         if !self.keys.is_same(&keys) {
-            self.take(keys);
+            expand(&keys, &mut self.told);
+            self.keys = keys;
         }
-        self.is_told = false;
-        self.number = 0;
-        self.taken = 0;
-        self.held.clear();
-        self.ended = false;
-    }
-
-    // Takes other keys. It is apart, since a function clears its locals when it begins.
-    fn take(&mut self, keys: ContentKeys)
-        ensures { self.new ≡ started keys }
-    {
-        *self.told = untold(&keys);
-        self.keys = keys;
         self.is_told = false;
         self.number = 0;
         self.taken = 0;

@@ -71,7 +71,7 @@ impl Encoder {
 
     /// An encoder under these keys, of which no file was begun. It takes no memory.
     pub fn new(keys: ContentKeys) -> Encoder
-        ensures { result.keys ≡ keys }
+        ensures { result ≡ begun keys result.header }
     {
         let told = untold(&keys);
         Encoder {

@@ -52,6 +52,13 @@ pub fn untold(keys: &ContentKeys) -> Told
     }
 }
 
+// Puts other keys of a vault in the place of the last ones. It is apart, since a function clears its locals when it begins.
+pub fn expand(keys: &ContentKeys, told: &mut Told)
+    ensures { Suits told.new keys.now }
+{
+    *told = untold(keys);
+}
+
 pub fn boxed(alloc: Global, told: Told) -> Result<Box<Told>, AllocError>
     ensures { IfOk result (λ boxed. boxed.value ≡ told) }
 {

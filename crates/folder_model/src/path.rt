@@ -89,10 +89,11 @@ fn push_parts(alloc: Global, parts: &mut Vec<String>, more: &[String]) -> Result
     Ok(())
 }
 
-fn copy_parts(alloc: Global, parts: &[String]) -> Result<Vec<String>, AllocError>
+// A copy of the parts, with room for so many more.
+fn copy_parts(alloc: Global, parts: &[String], more: usize) -> Result<Vec<String>, AllocError>
     ensures { IfOk result (λ v. map (λ s. string_bytes s) v.items ≡ map (λ s. string_bytes s) parts.now) }
 {
-    let mut copied = Vec::new(alloc);
+    let mut copied = Vec::with_capacity(alloc, parts.len().saturating_add(more))?;
     push_parts(alloc, &mut copied, parts)?;
     Ok(copied)
 }
@@ -219,7 +220,7 @@ impl FPath {
         ensures { IfOk result (λ p. p ≡ child self.now part.now) }
     {
         let alloc = *self.parts.allocator();
-        let mut parts = copy_parts(alloc, self.parts.as_slice())?;
+        let mut parts = copy_parts(alloc, self.parts.as_slice(), 1)?;
         push_text(alloc, &mut parts, part)?;
         Ok(FPath { parts })
     }
@@ -229,14 +230,14 @@ impl FPath {
         ensures { IfOk result (λ p. p ≡ parent self.now) }
     {
         let depth = self.parts.len().saturating_sub(1);
-        let parts = copy_parts(*self.parts.allocator(), &self.parts[..depth])?;
+        let parts = copy_parts(*self.parts.allocator(), &self.parts[..depth], 0)?;
         Ok(FPath { parts })
     }
 
     pub fn copy(&self) -> Result<FPath, AllocError>
         ensures { IfOk result (λ p. p ≡ self.now) }
     {
-        let parts = copy_parts(*self.parts.allocator(), self.parts.as_slice())?;
+        let parts = copy_parts(*self.parts.allocator(), self.parts.as_slice(), 0)?;
         Ok(FPath { parts })
     }
 
@@ -248,7 +249,7 @@ impl FPath {
             return Ok(None);
         };
         let alloc = *self.parts.allocator();
-        let mut parts = copy_parts(alloc, to.parts.as_slice())?;
+        let mut parts = copy_parts(alloc, to.parts.as_slice(), rest.len())?;
         push_parts(alloc, &mut parts, rest)?;
         Ok(Some(FPath { parts }))
     }

@@ -23,7 +23,8 @@ pub struct Kept {
 impl Kept {
     /// Nothing yet. It takes no memory.
     pub fn new() -> Kept
-        ensures { result.dir ≡ None }
+        ensures dir { result.dir ≡ None }
+        ensures buffers { result.buffers ≡ None }
     {
         Kept {
             dir: None,

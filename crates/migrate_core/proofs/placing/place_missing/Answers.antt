@@ -39,7 +39,7 @@ loop-item-init g c =
           (c.draws_compose.ensures.none (g.R.Randoms.left c.args.random.now)) (only_nowhere (BringsOnlyTo c.args.sides.now.target.root (λ at. ⊥)) (λ file. Contains [] file) told told refl);
       copied = λ v w is_v is_w h. none_copied c.args.sides.now.names c.args.sides.now.source c.args.sides.now.target c.args.there.now v w (one_view told w v is_w is_v) h;
       none = λ all. refl;
-      kept = subst (λ dir. IsKept c.args.sides.now.target told dir) (sym c.new.ensures) tt;
+      kept = subst (λ dir. IsKept c.args.sides.now.target told dir) (sym c.new.ensures.dir) tt;
       fills = λ v w is_v is_w h. none_filled c.args.sides.now.target v w (one_view told w v is_w is_v) h.1;
     }
 

@@ -20,12 +20,13 @@ use Rattle.folder_spec.specs.Region.{IsAsBefore, Spares, SparesOld, apart_from}
 use Rattle.folder_spec.specs.Seen.{under}
 use Rattle.folder_spec.specs.Written.{HoldFronts}
 use Rattle.folder_spec.specs.declared.FolderFault.{FolderFault}
+use Rattle.folder_spec.specs.declared.FolderFault.TheVariants as folder
 use Rattle.content_writing.specs.Content.{Coming, Ending, Whole, content_limit}
 use Rattle.vault_contents.specs.Coming.{coming_read, ending_of, held_before}
 use Rattle.content_writing.specs.declared.fault.PutFault.{PutFault}
 use Rattle.content_writing.specs.declared.fault.PutFault.TheVariants as put
 use Rattle.vault_write.specs.Refusing.{Answers, HasTaken}
-use Rattle.migrate_core.specs.Faults.{IsOfTest, of_put}
+use Rattle.migrate_core.specs.Faults.{IsOfTest, of_folder, of_put, of_work}
 use Rattle.migrate_core.specs.declared.fault.MoveFault.{MoveFault}
 use Rattle.migrate_core.specs.declared.fault.MoveFault.TheVariants.{Work, Journal as Unread, Overlap, Load, Walk, NotEmpty, NotAllowed, Meet, Changed, Match as Matching, Differ, Place, SourceGone, Failed, NoMemory}
 use Rattle.move_journal.specs.Journal.{IsJournal, journal_text}
@@ -58,15 +59,20 @@ use Rattle.migrate_core.proofs.WorkFolders.{apart_at, elsewhere_at, not_in_root,
 use Rattle.work_folder.specs.Apart.{AreApart}
 use Rattle.migrate_core.proofs.Planned.{FilesFit, mapped_behind, mapped_files, reader_of}
 use Rattle.migration_sides.proofs.Chains.{refused_as}
+use Rattle.migration_sides.proofs.Unchanged.{unchanged, unchanged_on}
 use Rattle.migration_sides.specs.Sides.{AreSeparate, opened_in}
+use Rattle.migration_sides.specs.Unchanged.{ChangesNothing}
+use Rattle.work_folder.specs.Looking as looking
+use Rattle.work_folder.specs.declared.fault.WorkFault.{WorkFault}
+use Rattle.work_folder.specs.declared.fault.WorkFault.TheVariants as works
 use Rattle.migrate_core.specs.Moved.{done_of, is_there}
-use Rattle.migrate_core.specs.Causes.{IsStop, StopsLater, nothing_stops}
+use Rattle.migrate_core.specs.Causes.{IsStop, Moves, StopsLater, StopsSeen, Unless, nothing_stops}
 use Rattle.folder_spec.specs.Region.{apart_from_both}
 use Rattle.vault_walk.specs.Survey.{IsOrdered}
 use Rattle.move_journal.specs.declared.journal.Phase.TheVariants.{Done}
 use Rattle.move_journal.specs.Reading.{StandsIn}
 use Rattle.migrate_core.specs.Sides.{AreTold, IsItemOf, IsMappedWalk, new_journal}
-use Rattle.migrate_core.specs.Written.{IsRefusal, HasGone, IsOfNoItem, WasAnswered, WasSeen, WereAnswered, ending_by, ending_in, last_answer, placing_in, BringsOnlyTo, IsMadePlace, IsPlaceOf, WritesBeside, AreCopies, HoldsOnly, IsCopyOf, IsFileOf, IsOneOf, MadeItem, MayWrite, MayWriteTold, MayWriteTree, Writes, WritesAll, WritesBy, WritesFirst, WritesLacked, WritesNothing, WritesOnly, WritesTree, journal_texts, lacked, slices}
+use Rattle.migrate_core.specs.Written.{IsOfPlacing, IsRefusal, LeavesRoot, HasGone, IsOfNoItem, WasAnswered, WasSeen, WereAnswered, ending_by, ending_in, last_answer, placing_in, BringsOnlyTo, IsMadePlace, IsPlaceOf, WritesBeside, AreCopies, HoldsOnly, IsCopyOf, IsFileOf, IsOneOf, MadeItem, MayWrite, MayWriteTold, MayWriteTree, Writes, WritesAll, WritesBy, WritesFirst, WritesLacked, WritesNothing, WritesOnly, WritesTree, journal_texts, lacked, slices}
 use Rattle.migration_spec.proofs.Tellings.{AreSound}
 use Rattle.migrate_core.specs.Moving.{MovesBeside}
 
@@ -746,13 +752,117 @@ pub by_all : {T : Type 0} (result : Result T MoveFault) (Is : View → Type 0) (
 by_all (Ok value) Is from to items texts s s' t u t' after stops all = all
 by_all (Err fault) Is from to items texts s s' t u t' after stops all = first_of_all from to items texts s s' t t' fault (λ v seen_v. let w = after v seen_v in stop_is_test fault (Is w.0) (stops w.0 w.1)) all
 
--- a test refuses, and nothing is drawn or written
-pub refused_written : {T : Type 0} (result : Result T MoveFault) (why : MoveFault) → IsErrAnd result (λ fault. fault ≡ why) → IsOfTest why → (s : Option ByteStream) (t u : Option Told) → Draws s s [] → WritesBeside [] (λ file. ⊥) t u
+-- a test refuses, and nothing is drawn or changed
+pub refused_written : {T : Type 0} (result : Result T MoveFault) (why : MoveFault) → IsErrAnd result (λ fault. fault ≡ why) → IsOfTest why → (s : Option ByteStream) (t u : Option Told) → Draws s s [] → ChangesNothing t u
     → WritesNothing result s s t u
-refused_written result why is tested s t u undrawn files = record { refused = refused_as (λ answer. IsRefusal answer) result is tested; undrawn = undrawn; files = files }
+refused_written result why is tested s t u undrawn still = record { refused = refused_as (λ answer. IsRefusal answer) result is tested; undrawn = undrawn; still = still }
 
 pub nothing_written : {T : Type 0} (result : Result T MoveFault) (why : MoveFault) → IsErrAnd result (λ fault. fault ≡ why) → IsOfTest why → (s : Option ByteStream) (t u : Option Told) → Draws s s [] → u ≡ t → WritesNothing result s s t u
-nothing_written result why is tested s t u undrawn stays = refused_written result why is tested s t u undrawn (only_nowhere (BringsOnlyTo [] (λ at. ⊥)) (λ file. ⊥) t u stays)
+nothing_written result why is tested s t u undrawn stays = refused_written result why is tested s t u undrawn (unchanged t u stays)
+
+-- where the tests have passed
+stop_places : (fault : MoveFault) (Is : Type 0) (P : PutFault → Type 0) → IsStop Is P fault → IsOfPlacing fault
+stop_places (Place why) Is P stops = tt
+stop_places (Work why) Is P stops = tt
+stop_places (Walk why) Is P stops = tt
+stop_places (Matching why) Is P stops = tt
+stop_places (Differ path how) Is P stops = tt
+stop_places Failed Is P stops = tt
+stop_places NoMemory Is P stops = tt
+stop_places (Unread why) Is P stops = absurd stops
+stop_places (Overlap p q) Is P stops = absurd stops
+stop_places (Load side why) Is P stops = absurd stops
+stop_places (NotEmpty at) Is P stops = absurd stops
+stop_places (NotAllowed path) Is P stops = absurd stops
+stop_places (Meet one other) Is P stops = absurd stops
+stop_places (Changed plan items plan' items') Is P stops = absurd stops
+stop_places SourceGone Is P stops = absurd stops
+
+work_places : (fault : WorkFault) → IsOfPlacing (of_work fault)
+work_places works.Failed = tt
+work_places works.NoMemory = tt
+work_places (works.NoParent at) = tt
+work_places (works.WrongKind at) = tt
+work_places (works.Foreign at) = tt
+work_places works.Begun = tt
+work_places works.Depth = tt
+
+pub moves_places : {T : Type 0} (readies : looking.Answer → Type 0) (from to : OpenedVault) (v : View) (items : List Planned) (answer : Result T MoveFault) → Unless answer (Moves readies from to v items answer) → IfErr answer IsOfPlacing
+moves_places readies from to v items (Ok value) h = tt
+moves_places readies from to v items (Err fault) h = elim h [
+  | inl failed ↦ let same : fault ≡ Failed = cc failed in subst IsOfPlacing (sym same) tt
+  | inr (inl none) ↦ let same : fault ≡ NoMemory = cc none in subst IsOfPlacing (sym same) tt
+  | inr (inr (Ok readied, tested, stops)) ↦ stop_places fault _ _ stops
+  | inr (inr (Err why, tested, is)) ↦ let same : fault ≡ of_work why = cc is in subst IsOfPlacing (sym same) (work_places why)
+]
+
+-- where the work folder isn't made ready
+pub work_leaves : (root : Path) (t u : Option Told) → WritesBeside root (λ file. ⊥) t u → (fault : WorkFault) → LeavesRoot root t u (of_work fault)
+work_leaves root t u beside works.Failed = tt
+work_leaves root t u beside works.NoMemory = tt
+work_leaves root t u beside (works.NoParent at) = beside
+work_leaves root t u beside (works.WrongKind at) = beside
+work_leaves root t u beside (works.Foreign at) = beside
+work_leaves root t u beside works.Begun = beside
+work_leaves root t u beside works.Depth = beside
+
+pub folder_leaves : (root : Path) (t u : Option Told) (fault : FolderFault) → LeavesRoot root t u (of_folder fault)
+folder_leaves root t u folder.Failed = tt
+folder_leaves root t u folder.Refused = tt
+folder_leaves root t u folder.NoMemory = tt
+
+-- which is no answer of what follows
+pub stop_leaves : (root : Path) (t u : Option Told) (fault : MoveFault) (Is : Type 0) (P : PutFault → Type 0) → IsStop Is P fault → LeavesRoot root t u fault
+stop_leaves root t u (Work why) Is P stops = absurd stops
+stop_leaves root t u (Place why) Is P stops = tt
+stop_leaves root t u (Walk why) Is P stops = tt
+stop_leaves root t u (Matching why) Is P stops = tt
+stop_leaves root t u (Differ path how) Is P stops = tt
+stop_leaves root t u Failed Is P stops = tt
+stop_leaves root t u NoMemory Is P stops = tt
+stop_leaves root t u (Unread why) Is P stops = tt
+stop_leaves root t u (Overlap p q) Is P stops = tt
+stop_leaves root t u (Load side why) Is P stops = tt
+stop_leaves root t u (NotEmpty at) Is P stops = tt
+stop_leaves root t u (NotAllowed path) Is P stops = tt
+stop_leaves root t u (Meet one other) Is P stops = tt
+stop_leaves root t u (Changed plan items plan' items') Is P stops = tt
+stop_leaves root t u SourceGone Is P stops = tt
+
+seen_then : (C : Call → Type 0) (P : List ℕ → Type 0) (t u : Option Told) → WritesOnly C P t u → (v : View) → IsSeen t v → (w : View) × IsSeen u w
+seen_then C P (Some a) (Some b) writes v is = (seen b.state, refl)
+seen_then C P (Some a) None writes v is = absurd writes
+seen_then C P None u writes v is = absurd is
+
+pub go_on_leaves : {T : Type 0} (result : Result T MoveFault) (C : Call → Type 0) (P : List ℕ → Type 0) (Is : View → Type 0) (from : OpenedVault) (items : List Planned) (root : Path) (t u t' : Option Told) → WritesOnly C P t u
+    → IfErr result (StopsSeen Is u from items) → (v : View) → IsSeen t v → IfErr result (LeavesRoot root t t')
+go_on_leaves (Ok value) C P Is from items root t u t' writes stops v is = tt
+go_on_leaves (Err fault) C P Is from items root t u t' writes stops v is =
+    let later = seen_then C P t u writes v is in
+    stop_leaves root t t' fault _ _ (stops later.0 later.1)
+
+-- behind a call that changes nothing
+leaves_after : {T : Type 0} (result : Result T MoveFault) (root : Path) (t u w : Option Told) → WritesBeside [] (λ file. ⊥) t u → IfErr result (LeavesRoot root u w) → IfErr result (LeavesRoot root t w)
+leaves_after (Ok value) root t u w before h = tt
+leaves_after (Err fault) root t u w before h = by fault h
+  where
+    by : (fault : MoveFault) → LeavesRoot root u w fault → LeavesRoot root t w fault
+    by (Work why) beside =
+        only_on (BringsOnlyTo [] (λ at. ⊥)) (BringsOnlyTo root (λ at. ⊥)) (BringsOnlyTo root (λ at. ⊥)) (λ file. ⊥) (λ file. ⊥) (λ file. ⊥) (brings_none root (λ at. ⊥)) (λ call is. is) (λ file none. none) (λ file none. none) t u w before beside
+    by (Place why) left = tt
+    by (Walk why) left = tt
+    by (Matching why) left = tt
+    by (Differ path how) left = tt
+    by Failed left = tt
+    by NoMemory left = tt
+    by (Unread why) left = tt
+    by (Overlap p q) left = tt
+    by (Load side why) left = tt
+    by (NotEmpty at) left = tt
+    by (NotAllowed path) left = tt
+    by (Meet one other) left = tt
+    by (Changed plan items plan' items') left = tt
+    by SourceGone left = tt
 
 -- the vaults are those of two roots and their passphrases
 pub tree_of : {T : Type 0} (result : Result T MoveFault) (names : NameMap) (from to : Path) (pass pass' : List ℕ) (source target : OpenedVault) (s s' : Option ByteStream) (t t' : Option Told) → source.root ≡ from → target.root ≡ to
@@ -769,10 +879,10 @@ tree_of result names from to pass pass' source target s s' t t' at_from at_to op
   })
 ]
 
--- behind a call by which nothing is written and what is seen stays so
-module _ (s s' : Option ByteStream) (t u w : Option Told) (known : IfSeen t (λ v. IsSeen u v)) (before : WritesBeside [] (λ file. ⊥) t u) where
+-- behind a call by which nothing is changed and what is seen stays so
+module _ (s s' : Option ByteStream) (t u w : Option Told) (known : IfSeen t (λ v. IsSeen u v)) (still : ChangesNothing t u) (before : WritesBeside [] (λ file. ⊥) t u) where
   nothing_after : {T : Type 0} (result : Result T MoveFault) → WritesNothing result s s' u w → WritesNothing result s s' t w
-  nothing_after result h = record { refused = h.refused; undrawn = h.undrawn; files = beside_on [] (λ file. ⊥) (λ file. ⊥) (λ file. ⊥) (λ file none. none) (λ file none. none) t u w before h.files }
+  nothing_after result h = record { refused = h.refused; undrawn = h.undrawn; still = unchanged_on t u w still h.still }
 
   lacked_after : {T : Type 0} (result : Result T MoveFault) (names : NameMap) (from to : OpenedVault) → WritesLacked result names from to s s' u w → WritesLacked result names from to s s' t w
   lacked_after result names from to h = record {
@@ -782,6 +892,8 @@ module _ (s s' : Option ByteStream) (t u w : Option Told) (known : IfSeen t (λ 
     items_are = λ v is. h.items_are v (known v is);
     mapped_are = h.mapped_are;
     there_are = λ v is. h.there_are v (known v is);
+    passed = λ v is. h.passed v (known v is);
+    unready = λ v is. leaves_after result to.root t u w before (h.unready v (known v is));
     writes = by_after from to (lacked h.there h.mapped) (journal_texts names from.root to.root h.items) s s' t u w known before result h.writes;
   }
 

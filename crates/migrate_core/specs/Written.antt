@@ -1,5 +1,5 @@
 -- What a migration writes: the bytes that it draws, item by item, and the files that it makes.
-use Rattle.std.specs.Prelude.{◌≡◌, ◌⊎◌, ◌≤◌, ◌<◌, ℕ, not, List, [], ◌∷◌, ◌++◌, length, map, Contains, None, Option, Result, Ok, Err}
+use Rattle.std.specs.Prelude.{◌≡◌, ◌⊎◌, ◌≤◌, ◌<◌, ℕ, not, List, [], ◌∷◌, ◌++◌, length, map, Contains, None, Option, Result, Ok, Err, IfErr}
 use Rattle.std.specs.List.{concat, filter}
 use Rattle.folder_spec.specs.Edit.{edits_under}
 use Rattle.folder_spec.specs.Event.{Append, Call, Create, MakeDir, RemoveDir, RemoveFile, Rename, Settle, Sync, Told, FromTo}
@@ -29,9 +29,10 @@ use Rattle.vault_contents.specs.Coming.{ending_of}
 use Rattle.content_writing.specs.declared.fault.PutFault.{PutFault}
 use Rattle.content_writing.specs.declared.fault.PutFault.TheVariants as put
 use Rattle.migrate_core.specs.declared.fault.MoveFault.{MoveFault}
-use Rattle.migrate_core.specs.declared.fault.MoveFault.TheVariants.{Place}
+use Rattle.migrate_core.specs.declared.fault.MoveFault.TheVariants.{Work, Journal as Unread, Overlap, Load, NotEmpty, NotAllowed, Meet, Changed, Place, SourceGone}
 use Rattle.migration_sides.specs.Causes.{AreItemsOf}
 use Rattle.migration_sides.specs.Sides.{opened_in}
+use Rattle.migration_sides.specs.Unchanged.{ChangesNothing}
 use Rattle.tree_match.specs.Mapping.{IsMappedPlan}
 use Rattle.migrate_core.specs.Faults.{IsOfTest}
 use Rattle.migrate_core.specs.Moved.{done_of, is_there}
@@ -195,6 +196,23 @@ abbrev pub WritesBy : {T : Type 0} → Result T MoveFault → OpenedVault → Op
 WritesBy (Ok value) = WritesAll
 WritesBy (Err fault) = WritesFirst fault
 
+-- what may be answered once the tests have passed
+abbrev pub IsOfPlacing : MoveFault → Type 0
+IsOfPlacing (Unread fault) = ⊥
+IsOfPlacing (Overlap p q) = ⊥
+IsOfPlacing (Load side fault) = ⊥
+IsOfPlacing (NotEmpty at) = ⊥
+IsOfPlacing (NotAllowed path) = ⊥
+IsOfPlacing (Meet one other) = ⊥
+IsOfPlacing (Changed plan items plan' items') = ⊥
+IsOfPlacing SourceGone = ⊥
+IsOfPlacing fault = Unit {0}
+
+-- where the work folder isn't made ready, nothing has come to the root
+abbrev pub LeavesRoot : Path → Option Told → Option Told → MoveFault → Type 0
+LeavesRoot root told told' (Work fault) = WritesBeside root (λ file. ⊥) told told'
+LeavesRoot root told told' fault = Unit {0}
+
 -- between two opened vaults, the items of the source, at their mapped paths, that the target lacks
 pub record WritesLacked {T : Type 0} (result : Result T MoveFault) (names : NameMap) (from to : OpenedVault) (stream stream' : Option ByteStream) (told told' : Option Told) : Type 0 where
   pub items : List Planned
@@ -203,6 +221,8 @@ pub record WritesLacked {T : Type 0} (result : Result T MoveFault) (names : Name
   pub items_are : IfSeen told (λ v. AreItemsOf from v items)
   pub mapped_are : IsMappedPlan names items mapped
   pub there_are : IfSeen told (λ v. AreItemsOf to v there)
+  pub passed : IfSeen told (λ v. IfErr result IsOfPlacing)
+  pub unready : IfSeen told (λ v. IfErr result (LeavesRoot to.root told told'))
   pub writes : WritesBy result from to (lacked there mapped) (journal_texts names from.root to.root items) stream stream' told told'
 
 -- a test refuses
@@ -210,13 +230,13 @@ abbrev pub IsRefusal : {T : Type 0} → Result T MoveFault → Type 0
 IsRefusal (Ok value) = ⊥
 IsRefusal (Err fault) = IsOfTest fault
 
--- a test refuses: nothing is drawn, and nothing is made or written
+-- a test refuses: nothing is drawn, and nothing is changed
 pub record WritesNothing {T : Type 0} (result : Result T MoveFault) (stream stream' : Option ByteStream) (told told' : Option Told) : Type 0 where
   pub refused : IsRefusal result
   pub undrawn : Draws stream stream' []
-  pub files : WritesBeside [] (λ file. ⊥) told told'
+  pub still : ChangesNothing told told'
 
--- where a test fails nothing is written
+-- where a test refuses nothing is changed
 abbrev pub MayWrite : {T : Type 0} → Result T MoveFault → NameMap → OpenedVault → OpenedVault → Option ByteStream → Option ByteStream → Option Told → Option Told → Type 0
 MayWrite result names from to stream stream' told told' = WritesNothing result stream stream' told told' ⊎ WritesLacked result names from to stream stream' told told'
 

@@ -15,7 +15,7 @@ ghost use Rattle.migrate_core.specs.Leading.{KeepsSettled, LeadsEach};
 ghost use Rattle.migrate_core.specs.Limits.{StopsElsewhere, EndsBy, IsOfLimit, PassesInTree};
 ghost use Rattle.migrate_core.specs.Moved.{IsTidyWork, Moved, MovesTree, Placed, lacking};
 ghost use Rattle.migrate_core.specs.Moving.{MovesOnly};
-ghost use Rattle.migrate_core.specs.Written.{MayWrite, MayWriteTree, WritesBy, journal_texts, lacked};
+ghost use Rattle.migrate_core.specs.Written.{LeavesRoot, MayWrite, MayWriteTree, WritesBy, journal_texts, lacked};
 ghost use Rattle.migrate_core.specs.Sharing.{IsFilled, IsOfTaken, SharesFrom, SharesInTree, SharesWhereTidy};
 ghost use Rattle.migrate_core.specs.Sides.{AllowsEach, AllowsEachMapped, AreItemsToMove, IsAsked};
 ghost use Rattle.migration_sides.specs.Sides.{AreSeparate};
@@ -210,6 +210,7 @@ fn move_all<F: Folder, R: Randoms>(
     ensures blamed { IfErr result (Blamed is_of_begin (CountRose (F.faults folder.old) (F.faults folder.new)) (CountRose (R.faults random.old) (R.faults random.new))) }
     ensures cause { IfSeen (F.told folder.old) (λ v. Unless result (Moves (EntersAs v work.now) sides.now.source sides.now.target v items.now.mapped.items result)) }
     ensures ends { EndsBy (StayGood sides.now.source sides.now.target (F.told folder.old) (F.told folder.new)) (SharesFrom (IsFilled sides.now.names sides.now.source sides.now.target []) sides.now.target items.now.mapped.items (R.left random.old) (R.left random.new) (F.told folder.old) (F.told folder.new)) sides.now.names sides.now.source sides.now.target (F.told folder.new) result }
+    ensures unready { IfSeen (F.told folder.old) (λ v. IfErr result (LeavesRoot sides.now.target.root (F.told folder.old) (F.told folder.new))) }
     ensures written { WritesBy result sides.now.source sides.now.target (lacked [] items.now.mapped.items) (journal_texts sides.now.names sides.now.source.root sides.now.target.root items.now.own.items) (R.left random.old) (R.left random.new) (F.told folder.old) (F.told folder.new) }
 {
     draws_compose();

@@ -17,7 +17,7 @@ ghost use Rattle.migrate_core.specs.Leading.{KeepsSettled, LeadsTold, progress_o
 ghost use Rattle.migrate_core.specs.Limits.{StopsElsewhere, EndsBy, IsOfLimit, PassesAsTold, PassesInTree, PassesSeen};
 ghost use Rattle.migrate_core.specs.Moved.{done_of, Moved, MovesTold, MovesTree, Placed, lacking};
 ghost use Rattle.migrate_core.specs.Moving.{MovesOnly};
-ghost use Rattle.migrate_core.specs.Written.{MayWrite, MayWriteTold, MayWriteTree, WritesBy, lacked};
+ghost use Rattle.migrate_core.specs.Written.{LeavesRoot, MayWrite, MayWriteTold, MayWriteTree, WritesBy, lacked};
 ghost use Rattle.migrate_core.specs.Sides.{AllowsEach, AreItemsToMove, AreTold, IsInUse, IsMappedWalk};
 ghost use Rattle.migration_sides.specs.Sides.{AreSeparate, IsWalked};
 ghost use Rattle.migration_sides.specs.Tests.{nothing_follows};
@@ -332,6 +332,7 @@ fn place_rest<F: Folder, R: Randoms>(
     ensures blamed { IfErr result (Blamed is_of_resume (CountRose (F.faults folder.old) (F.faults folder.new)) (CountRose (R.faults random.old) (R.faults random.new))) }
     ensures cause { IfSeen (F.told folder.old) (λ v. Unless result (Moves (Empties v work.now) sides.now.source sides.now.target v items.now.mapped.items result)) }
     ensures ends { EndsBy (StayGood sides.now.source sides.now.target (F.told folder.old) (F.told folder.new)) (Unit {0}) sides.now.names sides.now.source sides.now.target (F.told folder.new) result }
+    ensures unready { IfSeen (F.told folder.old) (λ v. IfErr result (LeavesRoot sides.now.target.root (F.told folder.old) (F.told folder.new))) }
     ensures written { IfSeen (F.told folder.old) (λ v. WritesBy result sides.now.source sides.now.target (lacked target.now.items items.now.mapped.items) (journal_text (done_of journal) ∷ []) (R.left random.old) (R.left random.new) (F.told folder.old) (F.told folder.new)) }
 {
     draws_compose();

@@ -1,3 +1,4 @@
 pub mod Chains
 pub mod Told
 pub mod Passing
+pub mod Unchanged

@@ -3,3 +3,4 @@ pub mod Faults
 pub mod Tests
 pub mod Sides
 pub mod Causes
+pub mod Unchanged

@@ -1,5 +1,5 @@
 -- `migrate`: moving the tree of one vault into another, which is empty, through a new work folder.
-use Rattle.std.specs.Prelude.{◌≡◌, ◌⊎◌, ℕ, List, if◌then◌else◌, Option, Some, None, IsTrue, MatchOption}
+use Rattle.std.specs.Prelude.{◌≡◌, ◌⊎◌, ℕ, List, if◌then◌else◌, Option, Some, None, IfErr, IsTrue, MatchOption}
 use Rattle.std.specs.Io.KnownBytes.{Keeps}
 use Rattle.folder_spec.specs.Event.{Told}
 use Rattle.folder_spec.specs.Path.{Path}
@@ -7,6 +7,7 @@ use Rattle.folder_spec.specs.Seen.{IfSeen, under}
 use Rattle.folder_spec.specs.View.{View}
 use Rattle.migrate_core.specs.Causes.{Begins, Unless}
 use Rattle.migrate_core.specs.Completing.{CanBegin}
+use Rattle.migrate_core.specs.Limits.{IsOfLimit, PassesInTree}
 use Rattle.migrate_core.specs.Moved.{MovesTree}
 use Rattle.migrate_core.specs.Moving.{MovesOnly}
 use Rattle.migrate_core.specs.Sides.{IsAsked}
@@ -64,12 +65,15 @@ root_of moving fault = moving.source
 abbrev pub IsRootOf : Moving → MoveFault → Path → Type 0
 IsRootOf moving fault root = root ≡ root_of moving fault
 
--- why `begin` comes to what it comes to under these passphrases, by what is seen at first; and what it draws and writes
+-- why `begin` comes to what it comes to under these passphrases, by what is seen at first; and what it draws and writes. Where it answers
+-- that a compared content passes the limit, it does so.
 abbrev pub IsCaused : Moving → View → List ℕ → List ℕ → Outcome → Type 0
 IsCaused moving v source_pass target_pass outcome = Unless outcome (Begins moving.names moving.source moving.target moving.work source_pass target_pass v outcome)
 
 abbrev pub IsWritten : Moving → Option Told → Option Told → Option ByteStream → Option ByteStream → List ℕ → List ℕ → Outcome → Type 0
-IsWritten moving told told' stream stream' source_pass target_pass outcome = MayWriteTree outcome moving.names moving.source moving.target source_pass target_pass stream stream' told told'
+IsWritten moving told told' stream stream' source_pass target_pass outcome =
+    MayWriteTree outcome moving.names moving.source moving.target source_pass target_pass stream stream' told told'
+    × IfErr outcome (IsOfLimit (PassesInTree moving.names moving.source moving.target source_pass target_pass told told'))
 
 abbrev pub ComesTo : Moving → (Outcome → Type 0) → Option Told → Option Told → Option ByteStream → Option ByteStream → View → Type 0
 ComesTo moving IsAnswered told told' stream stream' v = Comes moving.passes (IsCaused moving v) (IsWritten moving told told' stream stream') IsAnswered v

@@ -1,5 +1,5 @@
 -- `resume`: going on with the migration that the journal in a work folder tells of.
-use Rattle.std.specs.Prelude.{ℕ, List, Option, Some, None, IsTrue, ◌≡◌, ◌⊎◌}
+use Rattle.std.specs.Prelude.{ℕ, List, Option, Some, None, IfErr, IsTrue, ◌≡◌, ◌⊎◌}
 use Rattle.std.specs.Io.KnownBytes.{Keeps}
 use Rattle.folder_spec.specs.Event.{Told}
 use Rattle.folder_spec.specs.Path.{Path}
@@ -8,6 +8,7 @@ use Rattle.folder_spec.specs.View.{View}
 use Rattle.migrate_core.specs.Causes.{Unless}
 use Rattle.migrate_core.specs.Causes as causes
 use Rattle.migrate_core.specs.Completing.{CanResume}
+use Rattle.migrate_core.specs.Limits.{IsOfLimit, PassesAsTold}
 use Rattle.migrate_core.specs.Moved.{MovesTold}
 use Rattle.migrate_core.specs.Moving.{MovesOnly}
 use Rattle.migrate_core.specs.Written.{MayWriteTold}
@@ -59,12 +60,15 @@ abbrev pub unopened : MoveFault → Option Side
 unopened (Load side fault) = Some side
 unopened fault = None
 
--- why `resume` comes to what it comes to under these passphrases, by what is seen at first; and what it draws and writes
+-- why `resume` comes to what it comes to under these passphrases, by what is seen at first; and what it draws and writes. Where it answers
+-- that a compared content passes the limit, it does so.
 abbrev pub IsCaused : Resuming → View → List ℕ → List ℕ → Outcome → Type 0
 IsCaused resuming v source_pass target_pass outcome = Unless outcome (causes.Resumes resuming.work source_pass target_pass v outcome)
 
 abbrev pub IsWritten : Resuming → Option Told → Option Told → Option ByteStream → Option ByteStream → View → List ℕ → List ℕ → Outcome → Type 0
-IsWritten resuming told told' stream stream' v source_pass target_pass outcome = MayWriteTold outcome resuming.work source_pass target_pass stream stream' told told' v
+IsWritten resuming told told' stream stream' v source_pass target_pass outcome =
+    MayWriteTold outcome resuming.work source_pass target_pass stream stream' told told' v
+    × IfErr outcome (IsOfLimit (PassesAsTold resuming.work source_pass target_pass told told' v))
 
 abbrev pub ComesTo : Resuming → (Outcome → Type 0) → Option Told → Option Told → Option ByteStream → Option ByteStream → View → Type 0
 ComesTo resuming IsAnswered told told' stream stream' v = Comes resuming.passes (IsCaused resuming v) (IsWritten resuming told told' stream stream' v) IsAnswered v

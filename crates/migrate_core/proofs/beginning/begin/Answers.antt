@@ -21,6 +21,7 @@ use Rattle.migrate_core.proofs.beginning.begin.Goals as goal
 use Rattle.migration_spec.proofs.Settling.{settle_fell, settle_seen, settle_seen_back, still_guarded}
 use Rattle.migration_sides.proofs.Chains.{fault_as, refused_as}
 use Rattle.migrate_core.proofs.Tested.{folder_tested, step_tested}
+use Rattle.migration_sides.proofs.Unchanged.{unchanged_settled}
 use Rattle.migration_spec.specs.Guard.{Guarded}
 
 pub returns-in_err-test_apart-clause-guard : goal.returns-in_err-test_apart-clause-guard
@@ -96,7 +97,7 @@ returns-in_err-settle-clause-written g c v seen =
     let told = g.F.Folder.told c.args.folder.now in
     let settled = g.F.Folder.told c.settle.new.self in
     inl (refused_written c.from_residual-in_err-settle.result _ c.from_residual-in_err-settle.ensures.1 (folder_tested c.in_err-settle.field-0.0).1 (g.R.Randoms.left c.args.random.now) told settled (c.draws_compose.ensures.none _)
-    (settle_writes told settled c.settle.result c.settle.ensures.changes))
+    (unchanged_settled told settled c.settle.result c.settle.ensures.changes))
 
 pub returns-clause-written : goal.returns-clause-written
 returns-clause-written g c v seen =
@@ -104,7 +105,7 @@ returns-clause-written g c v seen =
     let left = g.R.Randoms.left c.args.random.now in
     let settled = g.F.Folder.told c.settle.new.self in
     let known = settle_seen told settled c.in_ok-settle.field-0 c.in_ok-settle.ensures.changes in
-    may_write_after left (g.R.Randoms.left c.begin_settled.new.random) told settled (g.F.Folder.told c.begin_settled.new.folder) known (settle_writes told settled c.settle.result c.settle.ensures.changes)
+    may_write_after left (g.R.Randoms.left c.begin_settled.new.random) told settled (g.F.Folder.told c.begin_settled.new.folder) known (unchanged_settled told settled c.settle.result c.settle.ensures.changes) (settle_writes told settled c.settle.result c.settle.ensures.changes)
     c.begin_settled.result c.args.names c.args.source.now c.args.target.now c.args.source_pass.now c.args.target_pass.now (c.begin_settled.ensures.written v (known v seen))
 
 pub returns-in_err-test_apart-clause-completes : goal.returns-in_err-test_apart-clause-completes

@@ -1,4 +1,4 @@
-use Rattle.std.proofs.Common.{◌≡◌, ◌∙◌, [], sym, ap, subst, arith, Err, List, Ok, inl, inr}
+use Rattle.std.proofs.Common.{◌≡◌, ◌∙◌, [], sym, ap, subst, arith, Err, IfErr, List, Ok, inl, inr}
 use Rattle.folder_spec.specs.Seen.{IfSeen, IsSeen}
 use Rattle.migrate_core.proofs.Endings.{if_ok_more, placed_of}
 use Rattle.migrate_core.specs.Moved.{lacking}
@@ -18,8 +18,8 @@ use Rattle.migrate_core.specs.Faults.{of_step}
 use Rattle.work_folder.specs.Entering.{EntersAs}
 use Rattle.migrate_core.specs.declared.placing.Done.{Done}
 use Rattle.vault_spec.specs.Plan.{Planned}
-use Rattle.migrate_core.proofs.Writings.{nothing_written}
-use Rattle.migrate_core.specs.Written.{WritesBy, journal_texts, lacked}
+use Rattle.migrate_core.proofs.Writings.{moves_places, nothing_written}
+use Rattle.migrate_core.specs.Written.{LeavesRoot, WritesBy, journal_texts, lacked}
 use Rattle.migrate_core.proofs.Started.{empty_held, may_begin}
 use Rattle.migrate_core.specs.Copying.{MayBegin}
 use Rattle.migrate_core.proofs.Limits.{ends_more, ends_uncompared}
@@ -156,6 +156,8 @@ returns-clause-written g c =
       items_are = c.in_ok-plans.ensures.source.plan;
       mapped_are = c.in_ok-mapped.ensures.mapped;
       there_are = c.in_ok-plans.ensures.target.plan;
+      passed = λ v is. moves_places (EntersAs v c.args.work.now) from to v mapped c.move_all.result (c.move_all.ensures.cause v (subst (λ t. IsSeen t v) (sym c.walk_both.ensures.told) is));
+      unready = λ v is. subst (λ t. IfErr c.move_all.result (LeavesRoot to.root t after)) c.walk_both.ensures.told (c.move_all.ensures.unready v (subst (λ t. IsSeen t v) (sym c.walk_both.ensures.told) is));
       writes = subst (λ t. WritesBy c.move_all.result from to (lacked plans.target.items mapped) (journal_texts rule from.root to.root plans.source.items) left left2 t after) c.walk_both.ensures.told
           (subst (λ there. WritesBy c.move_all.result from to (lacked there mapped) (journal_texts rule from.root to.root plans.source.items) left left2 (g.F.Folder.told c.walk_both.new.folder) after)
           (sym (sym c.as_slice.ensures ∙ c.in_ok-test_empty.ensures.empty)) c.move_all.ensures.written);

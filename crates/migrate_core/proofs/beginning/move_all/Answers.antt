@@ -20,7 +20,7 @@ use Rattle.migrate_core.proofs.Causing.{moves_pass, never_more}
 use Rattle.migrate_core.specs.Causes.{IsOfMoving, Moves, Unless, StopsAt}
 use Rattle.migrate_core.specs.Copying.{HaveOwnFolders}
 use Rattle.migrate_core.specs.Faults.{of_folder, of_work}
-use Rattle.migrate_core.proofs.Writings.{changing_writes, in_first, journal_written, none_ordered, nothing_yet, beside_on, stop_is_test, texts_first, texts_then}
+use Rattle.migrate_core.proofs.Writings.{changing_writes, folder_leaves, go_on_leaves, in_first, journal_written, none_ordered, nothing_yet, beside_on, stop_is_test, stop_leaves, texts_first, texts_then, work_leaves}
 use Rattle.migrate_core.specs.Written.{WritesBeside, WritesBy, lacked}
 use Rattle.move_journal.specs.Journal.{journal_text}
 use Rattle.migrate_core.proofs.Limits.{ends_more, ends_uncompared}
@@ -32,7 +32,7 @@ use Rattle.folder_spec.specs.Seen.{under}
 use Rattle.migrate_core.proofs.beginning.move_all.Given.{Over}
 use Rattle.migrate_core.proofs.beginning.move_all.Goals as goal
 use Rattle.migrate_core.proofs.beginning.move_all.Goals.{After-write}
-use Rattle.migration_sides.proofs.Chains.{refused_as}
+use Rattle.migration_sides.proofs.Chains.{fault_as, refused_as}
 use Rattle.migration_sides.proofs.Told.{folder_unless, work_refused}
 use Rattle.migrate_core.proofs.Tested.{folder_tested, work_tested}
 use Rattle.migrate_core.proofs.Readied.{begun_readied, lacked_kept, readied_good, readied_stops, source_is, target_is, IsReadied}
@@ -327,3 +327,27 @@ returns-clause-ends g c =
     (λ v w is_v is_w. filled_as rule from to [] v w (source_same v w is_v is_w) (target_same v w is_v is_w))
     (λ v w is_v is_w filled. subst (LoadsAlike (under to.root v)) (sym (target_same v w is_v is_w)) (λ pass vault opens. opens)) (λ item among. among) c.draws_compose.ensures.composed (λ v is. ([], c.draws_compose.ensures.none left)))
     c.go_on.ensures.ends
+
+pub returns-in_err-entered-clause-unready : goal.returns-in_err-entered-clause-unready
+returns-in_err-entered-clause-unready g c v seen =
+    let work = c.args.work.now in
+    let told = g.F.Folder.told c.args.folder.now in
+    let entered = g.F.Folder.told c.enter.new.folder in
+    let root = c.args.sides.now.target.root in
+    fault_as _ c.from_residual.result c.from_residual.ensures.1
+    (work_leaves root told entered (changing_writes work (IsWorkOrStage work) (IsLeftOver work) root c.requires.apart.target told entered c.enter.ensures.enters.moments) c.in_err-entered.field-0.0)
+
+pub returns-in_err-journal-clause-unready : goal.returns-in_err-journal-clause-unready
+returns-in_err-journal-clause-unready g c v seen =
+    fault_as _ c.from_residual-in_err-journal.result c.from_residual-in_err-journal.ensures.1
+    (stop_leaves c.args.sides.now.target.root (g.F.Folder.told c.args.folder.now) (g.F.Folder.told c.enter.new.folder) c.in_err-journal.field-0.0 _ _ c.in_err-journal.ensures.moving)
+
+pub returns-in_err-write-clause-unready : goal.returns-in_err-write-clause-unready
+returns-in_err-write-clause-unready g c v seen =
+    fault_as _ c.from_residual-in_err-write.result c.from_residual-in_err-write.ensures.1
+    (folder_leaves c.args.sides.now.target.root (g.F.Folder.told c.args.folder.now) (g.F.Folder.told c.write.new.folder) c.in_err-write.field-0.0)
+
+pub returns-clause-unready : goal.returns-clause-unready
+returns-clause-unready g c v seen =
+    go_on_leaves c.go_on.result _ _ _ c.args.sides.now.source c.args.items.now.mapped.items c.args.sides.now.target.root (g.F.Folder.told c.args.folder.now) (g.F.Folder.told c.write.new.folder) (g.F.Folder.told c.go_on.new.folder)
+    (text_written g (goal.at.returns-clause-unready g c).After-write) c.go_on.ensures.moving v seen

@@ -18,6 +18,7 @@ use Rattle.migration_spec.proofs.Tellings.{folders_of}
 use Rattle.migration_sides.proofs.Chains.{fault_as, refused_as}
 use Rattle.migration_sides.proofs.Told.{folder_unless}
 use Rattle.migrate_core.proofs.Tested.{folder_tested}
+use Rattle.migration_sides.proofs.Unchanged.{unchanged_settled}
 
 pub returns-in_err-settle-clause-guard : goal.returns-in_err-settle-clause-guard
 returns-in_err-settle-clause-guard g c = λ migration resumed opened.
@@ -68,7 +69,7 @@ returns-in_err-settle-clause-written g c v seen =
     let told = g.F.Folder.told c.args.folder.now in
     let settled = g.F.Folder.told c.settle.new.self in
     inl (refused_written c.from_residual.result _ c.from_residual.ensures.1 (folder_tested c.in_err-settle.field-0.0).1 (g.R.Randoms.left c.args.random.now) told settled (c.draws_compose.ensures.none _)
-    (settle_writes told settled c.settle.result c.settle.ensures.changes))
+    (unchanged_settled told settled c.settle.result c.settle.ensures.changes))
 
 pub returns-clause-written : goal.returns-clause-written
 returns-clause-written g c v seen =
@@ -76,7 +77,7 @@ returns-clause-written g c v seen =
     let left = g.R.Randoms.left c.args.random.now in
     let settled = g.F.Folder.told c.settle.new.self in
     let known = settle_seen told settled c.in_ok-settle.field-0 c.in_ok-settle.ensures.changes in
-    told_after left (g.R.Randoms.left c.resume_settled.new.random) told settled (g.F.Folder.told c.resume_settled.new.folder) known (settle_writes told settled c.settle.result c.settle.ensures.changes)
+    told_after left (g.R.Randoms.left c.resume_settled.new.random) told settled (g.F.Folder.told c.resume_settled.new.folder) known (unchanged_settled told settled c.settle.result c.settle.ensures.changes) (settle_writes told settled c.settle.result c.settle.ensures.changes)
     c.resume_settled.result c.args.work.now c.args.source_pass.now c.args.target_pass.now v (c.resume_settled.ensures.written v (known v seen))
 
 pub returns-in_err-settle-clause-completes : goal.returns-in_err-settle-clause-completes

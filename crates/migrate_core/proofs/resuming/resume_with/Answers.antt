@@ -1,4 +1,4 @@
-use Rattle.std.proofs.Common.{◌≡◌, ◌∙◌, sym, subst, arith, Err, List, [], inl, inr, ◌∷◌}
+use Rattle.std.proofs.Common.{◌≡◌, ◌∙◌, sym, subst, arith, Err, IfErr, List, [], inl, inr, ◌∷◌}
 use Rattle.migrate_core.proofs.Endings.{if_ok_more, placed_of}
 use Rattle.migrate_core.specs.Moved.{lacking, done_of}
 use Rattle.folder_spec.specs.Seen.{IfSeen, IsSeen}
@@ -17,8 +17,8 @@ use Rattle.migrate_core.specs.Faults.{of_step}
 use Rattle.work_folder.specs.Entering.{Empties}
 use Rattle.vault_spec.specs.Plan.{Planned}
 use Rattle.migrate_core.specs.declared.placing.Done.{Done}
-use Rattle.migrate_core.proofs.Writings.{by_texts, done_text, nothing_written}
-use Rattle.migrate_core.specs.Written.{WritesBy, journal_texts, lacked}
+use Rattle.migrate_core.proofs.Writings.{by_texts, done_text, moves_places, nothing_written}
+use Rattle.migrate_core.specs.Written.{LeavesRoot, WritesBy, journal_texts, lacked}
 use Rattle.move_journal.specs.Journal.{journal_text}
 use Rattle.migrate_core.proofs.Started.{matched_held, may_begin}
 use Rattle.migrate_core.specs.Copying.{MayBegin}
@@ -153,6 +153,8 @@ returns-clause-written g c v seen =
       items_are = c.in_ok-plans.ensures.source.plan;
       mapped_are = subst (λ n. IsMappedPlan n items mapped) (sym c.requires.names_named) c.in_ok-mapped.ensures.mapped;
       there_are = c.in_ok-plans.ensures.target.plan;
+      passed = λ w is. moves_places (Empties w c.args.work.now) from to w mapped c.place_rest.result (c.place_rest.ensures.cause w (subst (λ t. IsSeen t w) (sym same) is));
+      unready = λ w is. subst (λ t. IfErr c.place_rest.result (LeavesRoot to.root t after)) same (c.place_rest.ensures.unready w (subst (λ t. IsSeen t w) (sym same) is));
       writes = by_texts from to (lacked there mapped) (journal_text (done_of journal) ∷ []) (journal_texts journal.names from.root to.root items) left left2 told after text c.place_rest.result
           (subst (λ t. WritesBy c.place_rest.result from to (lacked there mapped) (journal_text (done_of journal) ∷ []) left left2 t after) same
           (c.place_rest.ensures.written v (subst (λ t. IsSeen t v) (sym same) seen)));

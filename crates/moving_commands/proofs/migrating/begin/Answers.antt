@@ -65,7 +65,7 @@ returns-in-Ok-clause-came g c = λ v is.
           (c.in_ok-phrases.ensures.source v is) (c.in_ok-phrases.ensures.target v is);
       outcome = Ok c.in-Ok.done;
       cause = c.in-Ok.ensures.cause v seen;
-      does = subst (λ t. IsWritten moving t told' stream stream' c.as_slice.result.now c.as_slice-2.result.now (Ok c.in-Ok.done)) c.in_ok-phrases.ensures.told (c.in-Ok.ensures.written v seen);
+      does = subst (λ t. IsWritten moving t told' stream stream' c.as_slice.result.now c.as_slice-2.result.now (Ok c.in-Ok.done)) c.in_ok-phrases.ensures.told (c.in-Ok.ensures.written v seen, tt);
       answers = refl;
     }
 
@@ -83,7 +83,7 @@ returns-clause-stopped g c = λ v is.
           (c.in_ok-phrases.ensures.source v is) (c.in_ok-phrases.ensures.target v is);
       outcome = Err c.in-Err.fault;
       cause = c.in-Err.ensures.cause v seen;
-      does = subst (λ t. IsWritten moving t told' stream stream' c.as_slice.result.now c.as_slice-2.result.now (Err c.in-Err.fault)) c.in_ok-phrases.ensures.told (c.in-Err.ensures.written v seen);
+      does = subst (λ t. IsWritten moving t told' stream stream' c.as_slice.result.now c.as_slice-2.result.now (Err c.in-Err.fault)) c.in_ok-phrases.ensures.told (c.in-Err.ensures.written v seen, c.in-Err.ensures.too_long);
       answers = elim c.answer_to_move.ensures.answers [ inl memory ↦ inl memory | inr same ↦ inr (c.root_of-root.result.now, c.root_of-root.ensures, same) ];
     })
 

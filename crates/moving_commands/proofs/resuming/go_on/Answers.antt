@@ -71,7 +71,7 @@ returns-in-Ok-clause-came g c = λ v is.
           (c.in_ok-known.ensures.source v is) (c.in_ok-known.ensures.target v is);
       outcome = Ok c.in-Ok.done;
       cause = c.in-Ok.ensures.cause v seen;
-      does = subst (λ t. IsWritten resuming t told' stream stream' v c.as_slice.result.now c.as_slice-2.result.now (Ok c.in-Ok.done)) same (c.in-Ok.ensures.written v seen);
+      does = subst (λ t. IsWritten resuming t told' stream stream' v c.as_slice.result.now c.as_slice-2.result.now (Ok c.in-Ok.done)) same (c.in-Ok.ensures.written v seen, tt);
       answers = refl;
     }
 
@@ -92,7 +92,7 @@ returns-clause-stopped g c = λ v is.
           (c.in_ok-known.ensures.source v is) (c.in_ok-known.ensures.target v is);
       outcome = Err c.in-Err.fault;
       cause = cause;
-      does = subst (λ t. IsWritten resuming t told' stream stream' v c.as_slice.result.now c.as_slice-2.result.now (Err c.in-Err.fault)) same (c.in-Err.ensures.written v seen);
+      does = subst (λ t. IsWritten resuming t told' stream stream' v c.as_slice.result.now c.as_slice-2.result.now (Err c.in-Err.fault)) same (c.in-Err.ensures.written v seen, c.in-Err.ensures.too_long v seen);
       answers = elim c.stopped.ensures.answers [
         | inl memory ↦ inl memory
         | inr named ↦ inr (

@@ -51,7 +51,8 @@ returns-in-Ok-clause-came g c = λ v is.
           (c.in_ok-known.ensures.source v is) (c.in_ok-known.ensures.target v is);
       outcome = Ok c.in-Ok.retired;
       cause = c.in-Ok.ensures.cause v seen;
-      does = touches_since resuming (g.F.Folder.told c.args.folder.now) (g.F.Folder.told c.learn.new.folder) told' v c.as_slice.result.now c.as_slice-2.result.now (Ok c.in-Ok.retired) same is c.retire.ensures.touches c.retire.ensures.removes;
+      does = touches_since resuming (g.F.Folder.told c.args.folder.now) (g.F.Folder.told c.learn.new.folder) told' v c.as_slice.result.now c.as_slice-2.result.now (Ok c.in-Ok.retired) same is c.retire.ensures.touches c.retire.ensures.removes
+          tt c.retire.ensures.unread;
       answers = refl;
     }
 
@@ -69,7 +70,8 @@ returns-clause-stopped g c = λ v is.
           (c.in_ok-known.ensures.source v is) (c.in_ok-known.ensures.target v is);
       outcome = Err c.in-Err.fault;
       cause = c.in-Err.ensures.cause v seen;
-      does = touches_since resuming (g.F.Folder.told c.args.folder.now) (g.F.Folder.told c.learn.new.folder) told' v c.as_slice.result.now c.as_slice-2.result.now (Err c.in-Err.fault) same is c.retire.ensures.touches c.retire.ensures.removes;
+      does = touches_since resuming (g.F.Folder.told c.args.folder.now) (g.F.Folder.told c.learn.new.folder) told' v c.as_slice.result.now c.as_slice-2.result.now (Err c.in-Err.fault) same is c.retire.ensures.touches c.retire.ensures.removes
+          c.in-Err.ensures.tested c.retire.ensures.unread;
       answers = elim c.refused.ensures.answers [
         | inl memory ↦ inl memory
         | inr named ↦ inr (

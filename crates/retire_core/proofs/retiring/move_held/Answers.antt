@@ -1,10 +1,10 @@
-use Rattle.std.proofs.Common.{◌≡◌, ◌∙◌, OnOk, subst, subst₂, Err, Ok, sym}
+use Rattle.std.proofs.Common.{◌≡◌, ◌∙◌, OnOk, subst, subst₂, Err, Ok, sym, ◌⊎◌, inl, inr}
 use Rattle.folder_spec.specs.Seen.{IsSeen, moved_view}
 use Rattle.migration_sides.specs.Sides.{opened_in}
 use Rattle.migration_spec.specs.Guard.{Migration, old_path}
 use Rattle.port_model.specs.Counts.{CountRose}
 use Rattle.retire_core.proofs.Away.{StaysInOrder, order_same}
-use Rattle.retire_core.proofs.Blaming.{blamed_step}
+use Rattle.retire_core.proofs.Blaming.{blamed_step, folder_removal, if_err_both}
 use Rattle.retire_core.proofs.Courses.{held_moves, held_same}
 use Rattle.retire_core.proofs.Going.{done_same}
 use Rattle.retire_core.specs.Clearing.{MovesHeldOnly}
@@ -12,10 +12,11 @@ use Rattle.retire_core.specs.Guarding.{ComesFromDone, KeepsDone}
 use Rattle.retire_core.specs.Retiring.{AreHeld, retiring_by}
 use Rattle.migration_sides.proofs.Chains.{fault_as, passed_is, refused_as}
 use Rattle.retire_core.proofs.Causing.{both_opened, closed, ends}
-use Rattle.retire_core.specs.Causes.{Answer, TestsHeld, TestsVaults, Unless}
+use Rattle.retire_core.specs.Causes.{Answer, TestsHeld, TestsVaults, Unless, IsOfFolder}
 use Rattle.retire_core.specs.declared.fault.RetireFault.{RetireFault}
 use Rattle.retire_core.specs.declared.fault.RetireFault.TheVariants.{Failed, NoMemory}
 use Rattle.folder_spec.specs.View.{View}
+use Rattle.retire_core.specs.Faults.{IsOfRemoval}
 use Rattle.retire_core.proofs.retiring.move_held.Goals as goal
 
 abbrev failing : RetireFault → Answer (Unit {0})
@@ -138,3 +139,14 @@ returns-clause-seen g c =
     (λ t. OnOk c.move_source.result
     ((v w : View) → IsSeen t v → IsSeen (g.F.Folder.told c.move_source.new.folder) w → w ≡ moved_view v c.args.journal.now.source (old_path c.args.work.now)))
     (c.test_held.ensures.told ∙ c.load_both.ensures.told) c.move_source.ensures.seen
+
+pub returns-in_err-sides-clause-tested : goal.returns-in_err-sides-clause-tested
+returns-in_err-sides-clause-tested g c = fault_as _ c.from_residual.result c.from_residual.ensures.1 (inr c.load_both.ensures.told)
+
+pub returns-in_err-test_held-clause-tested : goal.returns-in_err-test_held-clause-tested
+returns-in_err-test_held-clause-tested g c =
+    fault_as _ c.from_residual-in_err-test_held.result c.from_residual-in_err-test_held.ensures.1 (inr (c.test_held.ensures.told ∙ c.load_both.ensures.told))
+
+pub returns-clause-tested : goal.returns-clause-tested
+returns-clause-tested g c =
+    if_err_both IsOfFolder (λ fault. IsOfRemoval fault ⊎ (g.F.Folder.told c.move_source.new.folder ≡ g.F.Folder.told c.args.folder.now)) c.move_source.result (λ fault fails. inl (folder_removal fault fails)) c.move_source.ensures.fails

@@ -1,12 +1,12 @@
 use denote.Enum.Bare.{same_true, sameb}
 use Rattle.move_journal.specs.Reading.{StandsIn}
-use Rattle.std.proofs.Common.{rules, true, false, ap, ◌≡◌, ◌≢◌, ◌∙◌, arith, subst, sym, inl, inr, refl}
+use Rattle.std.proofs.Common.{rules, true, false, ap, ◌≡◌, ◌≢◌, ◌∙◌, arith, subst, sym, inl, inr, refl, ◌⊎◌}
 use Rattle.folder_spec.specs.Seen.{IfSeen, IsSeen, moved_view}
 use Rattle.folder_spec.specs.View.{View}
 use Rattle.folder_spec.specs.contracts.Kind.{the_type}
 use Rattle.folder_spec.specs.declared.Kind.TheVariants.{Missing}
 use Rattle.migration_spec.specs.Guard.{Migration, old_path}
-use Rattle.retire_core.proofs.Blaming.{blamed_kind}
+use Rattle.retire_core.proofs.Blaming.{blamed_kind, if_err_both}
 use Rattle.retire_core.proofs.Courses.{held_same}
 use Rattle.retire_core.proofs.Going.{rest_same}
 use Rattle.migration_spec.proofs.Tellings.{seen_before}
@@ -18,7 +18,7 @@ use Rattle.migration_sides.proofs.Chains.{fault_as, refused_as}
 use Rattle.migration_sides.proofs.Told.{folder_unless}
 use Rattle.retire_core.proofs.Causing.{away_none, away_there, is_free, not_free}
 use Rattle.retire_core.specs.Causes.{TestsAway, Unless, moved_away}
-use Rattle.retire_core.specs.Faults.{of_folder}
+use Rattle.retire_core.specs.Faults.{of_folder, IsOfRemoval}
 use Rattle.retire_core.proofs.retiring.put_away.Goals as goal
 use Rattle.folder_spec.proofs.Seen.{one_view}
 
@@ -151,3 +151,18 @@ returns-clause-seen g c =
     let isnt : kind ≢ Missing = (λ is. let equal : false ≡ true = sym c.if-eq.false ∙ c.eq.ensures ∙ ap (λ k. sameb the_type k Missing) is in cc equal) in
     on_ok_more ((v w : View) → IsSeen t2 v → IsSeen t3 w → w ≡ moved_view v source (old_path work)) ((v w : View) → IsSeen t0 v → IsSeen t3 w → w ≡ moved_away (v source) source work v) c.move_held.result
     (λ moved v w seen now. moved v w (subst (λ t. IsSeen t v) (sym same) seen) now ∙ away_there source work v (v source) (there_by_kind t0 source kind c.in_ok-kind.ensures.answer isnt v seen)) c.move_held.ensures.seen
+
+pub returns-in_err-kind-clause-tested : goal.returns-in_err-kind-clause-tested
+returns-in_err-kind-clause-tested g c = fault_as _ c.from_residual.result c.from_residual.ensures.1 (inr c.kind.ensures.told)
+
+pub returns-in_err-test_free-clause-tested : goal.returns-in_err-test_free-clause-tested
+returns-in_err-test_free-clause-tested g c =
+    fault_as _ c.from_residual-in_err-test_free.result c.from_residual-in_err-test_free.ensures.1 (inr (c.test_free.ensures.told ∙ c.kind.ensures.told))
+
+pub returns-clause-tested : goal.returns-clause-tested
+returns-clause-tested g c =
+    let t0 = g.F.Folder.told c.args.folder.now in
+    let t2 = g.F.Folder.told c.test_free.new.folder in
+    let t3 = g.F.Folder.told c.move_held.new.folder in
+    if_err_both (λ fault. IsOfRemoval fault ⊎ (t3 ≡ t2)) (λ fault. IsOfRemoval fault ⊎ (t3 ≡ t0)) c.move_held.result
+    (λ fault h. elim h [ inl removal ↦ inl removal | inr same ↦ inr (same ∙ c.test_free.ensures.told ∙ c.kind.ensures.told) ]) c.move_held.ensures.tested

@@ -1,9 +1,9 @@
 use Rattle.retire_core.proofs.Courses.{gone_still, removes_cleared, removes_moved, rest_then, touches_cleared, touches_moved}
 use Rattle.retire_core.specs.Retiring.{retiring_by}
-use Rattle.migration_sides.proofs.Chains.{refused_as}
+use Rattle.migration_sides.proofs.Chains.{refused_as, fault_as}
 use Rattle.retire_core.proofs.Causing.{is_retired, not_away, not_removed, removed_then}
 use Rattle.retire_core.specs.Causes.{RetiresTold, Unless}
-use Rattle.std.proofs.Common.{Err, Ok}
+use Rattle.std.proofs.Common.{Err, Ok, inl}
 use Rattle.retire_core.proofs.retiring.retire_told.Goals as goal
 use Rattle.retire_core.proofs.Away.{not_base}
 
@@ -82,3 +82,9 @@ returns-clause-cause g c v seen =
     is_retired work pass pass_too journal v (c.in_ok-put_away.ensures.cause v seen)
     (removed_then (retiring_by work pass pass_too journal) journal.source work (g.F.Folder.told c.args.folder.now) (g.F.Folder.told c.put_away.new.folder) (Ok tt) c.put_away.ensures.moves c.in_ok-put_away.ensures.seen
     c.in_ok-clear.ensures.cause v seen)
+
+pub returns-in_err-put_away-clause-tested : goal.returns-in_err-put_away-clause-tested
+returns-in_err-put_away-clause-tested g c = fault_as _ c.from_residual.result c.from_residual.ensures.1 c.in_err-put_away.ensures.tested
+
+pub returns-in_err-clear-clause-tested : goal.returns-in_err-clear-clause-tested
+returns-in_err-clear-clause-tested g c = fault_as _ c.from_residual-in_err-clear.result c.from_residual-in_err-clear.ensures.1 (inl c.in_err-clear.ensures.refused)

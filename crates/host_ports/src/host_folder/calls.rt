@@ -149,7 +149,7 @@ impl Folder for HostFolder {
         ensures bar { HeedsBar Failed self.old self.new result }
     {
         let answer = self.rename_now(old, new);
-        self.answered(Some(old), answer)
+        self.answered(Some(new), answer)
     }
 
     fn remove_file(&mut self, at: &FPath) -> Result<(), FolderFault>

@@ -187,6 +187,7 @@ impl HostFolder {
         ensures faults { self.new.faults ≡ self.old.faults }
     {
         let text = self.take_file(at)?;
+        self.handles.close_below(at);
         fs::remove_file(&self.rt, text.as_str())?;
         self.forget_below(at, Some(Kind::Missing));
         Ok(())

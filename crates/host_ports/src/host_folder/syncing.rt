@@ -144,7 +144,10 @@ fn is_passed_over(cause: Cause) -> bool {
     matches!(
         cause,
         Cause::Machine(
-            ErrorKind::PermissionDenied | ErrorKind::InvalidInput | ErrorKind::ReadOnlyFilesystem
+            ErrorKind::PermissionDenied
+                | ErrorKind::InvalidInput
+                | ErrorKind::ReadOnlyFilesystem
+                | ErrorKind::Unsupported
         )
     )
 }

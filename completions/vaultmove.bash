@@ -1,4 +1,9 @@
 # Completion of vaultmove's commands, options, folders and files for bash.
+# Folders without the slash at their ends, with which they would be no paths of the program.
+_vaultmove_folders() {
+    local folder
+    mapfile -t COMPREPLY < <(compgen -d -- "$1" | while IFS= read -r folder; do printf '%q\n' "$folder"; done)
+}
 _vaultmove() {
     local word=${COMP_WORDS[COMP_CWORD]} before=${COMP_WORDS[COMP_CWORD - 1]} command=${COMP_WORDS[1]} options=
     COMPREPLY=()
@@ -22,8 +27,7 @@ _vaultmove() {
             return
             ;;
         --work)
-            compopt -o filenames
-            mapfile -t COMPREPLY < <(compgen -d -- "$word")
+            _vaultmove_folders "$word"
             return
             ;;
     esac
@@ -33,8 +37,7 @@ _vaultmove() {
             if [ "$command" = init ] && [ "$COMP_CWORD" = 2 ]; then
                 mapfile -t COMPREPLY < <(compgen -W 'gocryptfs cryptomator cryptomator-ctrmac' -- "$word")
             elif [ -n "$options" ]; then
-                compopt -o filenames
-                mapfile -t COMPREPLY < <(compgen -d -- "$word")
+                _vaultmove_folders "$word"
             fi
             ;;
     esac

@@ -14,12 +14,16 @@ complete -c vaultmove -n $none -a put -d 'store the input as a file of a vault'
 complete -c vaultmove -n $none -a repair -d 'move strays out of a vault'
 complete -c vaultmove -n $none -a resume -d 'go on with a migration that was stopped'
 complete -c vaultmove -n $none -a retire -d 'remove the source of a finished migration'
+# A folder without the slash at its end, with which it would be no path of the program.
+function __vaultmove_folders
+    __fish_complete_directories | string replace -r '/(\t|$)' '$1'
+end
 set -l one '__fish_seen_subcommand_from cat fsck init ls mkdir put repair'
 set -l two '__fish_seen_subcommand_from migrate resume retire'
 complete -c vaultmove -n $one -l pass -r -F -d 'file with the passphrase'
-complete -c vaultmove -n '__fish_seen_subcommand_from init mkdir put' -l work -x -a '(__fish_complete_directories)' -d 'work folder'
+complete -c vaultmove -n '__fish_seen_subcommand_from init mkdir put' -l work -x -a '(__vaultmove_folders)' -d 'work folder'
 complete -c vaultmove -n $two -l from-pass -r -F -d 'file with the passphrase of the source'
 complete -c vaultmove -n $two -l to-pass -r -F -d 'file with the passphrase of the target'
 complete -c vaultmove -n '__fish_seen_subcommand_from migrate' -l nfc -d 'bring names to normalization form C'
 complete -c vaultmove -n '__fish_seen_subcommand_from init' -a 'gocryptfs cryptomator cryptomator-ctrmac'
-complete -c vaultmove -n "$one; or $two" -a '(__fish_complete_directories)'
+complete -c vaultmove -n "$one; or $two" -a '(__vaultmove_folders)'

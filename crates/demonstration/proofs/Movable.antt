@@ -30,8 +30,6 @@ use Rattle.mapped_trees.specs.Trees.{AllowsMapped, AllowsTree, IsWhole, StaysApa
 use Rattle.tree_match.specs.Trees.{IsWalkOf, Side}
 use Rattle.vault_spec.specs.Opened.{OpenedVault}
 use Rattle.vault_spec.specs.Alike.{IsOrderly}
-use Rattle.vault_spec.specs.Depth.{IsWithinSteps}
-use Rattle.vault_spec.specs.Findings.{IsClean}
 use Rattle.vault_spec.specs.Format.{Format}
 use Rattle.vault_spec.specs.Making.{Allows}
 use Rattle.vault_spec.specs.Opens as opens
@@ -39,7 +37,6 @@ use Rattle.vault_spec.specs.Opens.{Opened, NoItem, Directory, Content, Tree, ope
 use Rattle.vault_spec.specs.Plan.{Planned}
 use Rattle.vault_spec.specs.Standing.{File, standing}
 use Rattle.vault_spec.specs.Vault.{IsVault, Vault, format_of}
-use Rattle.vault_walk.specs.Survey.{depth_limit}
 use Rattle.vault_walk.specs.Surveyed as walks
 use Rattle.content_writing.specs.Making.{is_inside}
 use Rattle.content_writing.specs.Trees.{ShowsVault}
@@ -168,14 +165,6 @@ can_begin laws leg seed count s sound few can = record {
 abbrev pub PlansTell : Type 0
 PlansTell = (v : View) (a : Side) → IsWalkOf v a → IsPlanOf (tree (format_of a.vault) (under a.root v)) a.items
 
-abbrev pub CleanIsShallow : Type 0
-CleanIsShallow = (vault : Vault) (v : View) (steps : ℕ) → IsOrderly (format_of vault) v → IsClean (format_of vault) v → IsWithinSteps (format_of vault) v steps → (at : Path) → steps + 5 < length at → v at ≡ NoEntry
-
--- the limit of a walk says so of its steps
-within_steps : (f : Format) (v : View) → walks.IsWithin f v → IsWithinSteps f v depth_limit
-within_steps f v within dir name node reached stands =
-    within.depth (record { spot = record { dir = dir; name = name }; item = record { reached = (reached.path, reached.leads); node = node; stands = stands }; deep = reached })
-
 whole_if_small : (opens : Opened) → IsSmall opens → IsWhole opens
 whole_if_small NoItem small = tt
 whole_if_small Directory small = tt
@@ -231,9 +220,9 @@ tidy_work s sound tidy bytes journal = record {
         let there = inside_of (old_path moving_folder) q inside in
         ap (seen s) there.1 ∙ nothing_seen s sound (old_path moving_folder) there.0 (tidy.alone (codes "old") (λ e. cc e) (λ e. cc e))
 
-pub can_retire : AreMovable → PlansTell → CleanIsShallow → (leg : Leg) (seed count : ℕ) (s : State) → IsSound s → count ≤ 2000 → (can : HasCarried leg seed count (seen s))
+pub can_retire : AreMovable → PlansTell → (leg : Leg) (seed count : ℕ) (s : State) → IsSound s → count ≤ 2000 → (can : HasCarried leg seed count (seen s))
     → CanRetire (migration_of leg can.source.items.vault can.target.items.vault (seen s)) (seen s)
-can_retire laws plans shallow leg seed count s sound few can = record {
+can_retire laws plans leg seed count s sound few can = record {
   separate = are_separate leg source target (seen s);
   guarded = record {
     case = Done (record {
@@ -269,9 +258,6 @@ can_retire laws plans shallow leg seed count s sound few can = record {
   limits = record {
     source = keeps source (source_of leg) can.source.good can.source.items.items;
     target = keeps target (target_of leg) can.target.good can.target.items.items;
-    removed = λ rest deep.
-        shallow source (under (source_of leg) (seen s)) depth_limit can.source.good.orderly can.source.good.clean
-        (within_steps (format_of source) (under (source_of leg) (seen s)) (laws.fits source (under (source_of leg) (seen s)) seed count few can.source.items.items)) rest (omega (arith, deep));
     old = λ rest deep. nothing_seen s sound (old_path moving_folder) rest (can.tidy.alone (codes "old") (λ e. cc e) (λ e. cc e));
     stage = λ rest deep. can.tidy.ready.bare rest (omega (arith, deep));
   };
@@ -301,11 +287,11 @@ can_retire laws plans shallow leg seed count s sound few can = record {
     }
 
 -- what follows of a migration that can be retired follows where it was carried
-pub carried_retires : AreMovable → PlansTell → CleanIsShallow → (X : Type 0) (leg : Leg) (count : ℕ) (work : Path) (t : Option Told) → ((a : Told) → t ≡ Some a → IsSound a.state) → work ≡ moving_folder
+pub carried_retires : AreMovable → PlansTell → (X : Type 0) (leg : Leg) (count : ℕ) (work : Path) (t : Option Told) → ((a : Told) → t ≡ Some a → IsSound a.state) → work ≡ moving_folder
     → ((g : Migration) → IfSeen t (λ v. g.work ≡ work → AreOpenedBy g phrase phrase v → CanRetire g v → X)) → Sees (HasCarried leg) count t → X
-carried_retires laws plans shallow X leg count work (Some a) sound is completes sees =
+carried_retires laws plans X leg count work (Some a) sound is completes sees =
     let can : HasCarried leg sees.seed count (seen a.state) = subst (HasCarried leg sees.seed count) sees.seen sees.shown in
     completes (migration_of leg can.source.items.vault can.target.items.vault (seen a.state)) (seen a.state) refl (sym is)
     (are_opened leg can.source.items.vault can.target.items.vault (seen a.state) can.source.items.opens can.target.items.opens)
-    (can_retire laws plans shallow leg sees.seed count a.state (sound a refl) sees.few can)
-carried_retires laws plans shallow X leg count work None sound is completes sees = absurd sees.seen
+    (can_retire laws plans leg sees.seed count a.state (sound a refl) sees.few can)
+carried_retires laws plans X leg count work None sound is completes sees = absurd sees.seen

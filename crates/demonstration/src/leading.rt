@@ -41,7 +41,7 @@ use std::alloc::{AllocError, Global};
 use tree_match::laws::{plans_stay_by_same, walks_tell_the_tree, what_is_held_opens_the_same};
 use vault_read::VaultKind;
 use vault_read::laws::roots_have_one_answer;
-use vault_spec::laws::{clean_vaults_are_shallow, plans_are_the_tree};
+use vault_spec::laws::plans_are_the_tree;
 use work_folder::Work;
 
 /// One of the two migrations: from `g` to `c`, or from `c` to `h`.
@@ -265,7 +265,6 @@ fn retire_source<F: Folder>(alloc: Global, folder: &mut F, leg: Leg) -> Result<u
     ensures next { IfOk result (λ items. (count : ℕ) → leg ≡ Leg.There → Sees (HasCarried leg) count (F.told folder.old) → Sees (CanLead Leg.Back) count (F.told folder.new)) }
     ensures leaves { IfOk result (λ items. LeavesSource leg items (F.told folder.old) (F.told folder.new)) }
 {
-    clean_vaults_are_shallow();
     items_are_directories_or_short_files();
     journals_are_read_back();
     names_of_items_are_allowed();

@@ -1,6 +1,6 @@
 -- Over a guarded migration that can be retired each test passes, unless the folder fails or memory runs out.
 use Rattle.std.proofs.Math.Path.{fun_ext}
-use Rattle.std.proofs.Common.{◌≡◌, ◌≢◌, ◌⊎◌, inl, inr, List, [], ◌∷◌, ◌++◌, ℕ, Bool, true, false, Option, None, Result, Ok, Err, MatchResult, IfErr, IsTrue, refl, sym, ap, ◌∙◌, subst, subst₂, append-nil, append_assoc, bytes_eq, codes, arith, Contains}
+use Rattle.std.proofs.Common.{◌≡◌, ◌≢◌, ◌+◌, ◌<◌, ◌⊎◌, length, inl, inr, List, [], ◌∷◌, ◌++◌, ℕ, Bool, true, false, Option, None, Result, Ok, Err, MatchResult, IfErr, IsTrue, refl, sym, ap, ◌∙◌, subst, subst₂, append-nil, append_assoc, bytes_eq, codes, arith, Contains}
 use Rattle.chunk_files.specs.Keys.{Keys}
 use Rattle.chunk_files.specs.Reading.{Wanting}
 use Rattle.folder_spec.proofs.Paths.{below-append, below-apart}
@@ -37,10 +37,15 @@ use Rattle.tree_match.specs.Trees.{Compares, HoldsAllOrTooLong, IsMappedWalkOf, 
 use Rattle.tree_match.specs.Trees as trees
 use Rattle.tree_match.specs.declared.answer.MapFault.{MapFault}
 use Rattle.vault_read.specs.Laws.{HaveOneAnswer}
-use Rattle.vault_spec.specs.Alike.{HasFolders}
+use Rattle.vault_spec.specs.Alike.{HasFolders, IsOrderly}
+use Rattle.vault_spec.specs.Depth.{IsWithinSteps}
+use Rattle.vault_spec.specs.Findings.{IsClean}
+use Rattle.vault_spec.specs.Format.{Format}
 use Rattle.vault_spec.specs.Opens.{Tree}
 use Rattle.vault_spec.specs.Plan.{Planned}
-use Rattle.vault_spec.specs.Vault.{format_of}
+use Rattle.vault_spec.specs.Vault.{Vault, format_of}
+use Rattle.vault_walk.specs.Survey.{depth_limit}
+use Rattle.vault_walk.specs.Surveyed as walks
 use Rattle.vault_walk.specs.declared.plan.Plan.{Plan}
 use Rattle.content_writing.specs.Making.{is_inside}
 use Rattle.work_folder.specs.Entries.{HasNoForeign, is_foreign, journal_path, new_journal_path, stage_path}
@@ -226,12 +231,21 @@ module _ (work root : Path) (v : View) (apart : AreApart root work) where
 abbrev AwayAt : Path → (from_pass to_pass : List ℕ) → View → NameMap → Path → Path → Answer (Unit {0}) → Type 0
 AwayAt work from_pass to_pass v rule p q answer = ((v p ≡ NoEntry) × (answer ≡ Ok tt)) ⊎ ((v p ≢ NoEntry) × Then own (TestsFree work v) (λ _. TestsHeld rule p q from_pass to_pass v) answer)
 
+abbrev pub CleanIsShallow : Type 0
+CleanIsShallow = (vault : Vault) (v : View) (steps : ℕ) → IsOrderly (format_of vault) v → IsClean (format_of vault) v → IsWithinSteps (format_of vault) v steps → (at : Path) → steps + 5 < length at → v at ≡ NoEntry
+
+-- the limit of a walk says so of its steps
+within_steps : (f : Format) (v : View) → walks.IsWithin f v → IsWithinSteps f v depth_limit
+within_steps f v within dir name node reached stands =
+    within.depth (record { spot = record { dir = dir; name = name }; item = record { reached = (reached.path, reached.leads); node = node; stands = stands }; deep = reached })
+
 -- what the laws say that are cited
 pub record AreCited : Type 0 where
   pub reads : ReadsBack
   pub one : HaveOneAnswer
   pub alike : AreHeldAlike
   pub none_special : HasNoSpecial
+  pub shallow : CleanIsShallow
 
 module _ (laws : AreCited) (g : Migration) (from_pass to_pass : List ℕ) (v : View) (folders : HasFolders v) (opened : AreOpenedBy g from_pass to_pass v) (separate : guard.IsSeparate g) (limits : PassesNoLimit g v) where
   abbrev work : Path
@@ -295,10 +309,15 @@ module _ (laws : AreCited) (g : Migration) (from_pass to_pass : List ℕ) (v : V
           (λ t. only_or IsOfFolder (v (old_path work) ≡ NoEntry) (v (old_path work) ≢ NoEntry) (Work (works.Foreign (old_path work))) t (λ taken. taken (old_free v work none)))
           (λ _ _. held_met laws.one laws.alike g from_pass to_pass v opened done limits answer) there.1
 
+      removed : IsShallow g.source.root v
+      removed rest deep =
+          laws.shallow g.source.vault (under g.source.root v) depth_limit done.source.there.good.orderly done.source.there.good.clean
+          (within_steps (format_of g.source.vault) (under g.source.root v) limits.source.items) rest (omega (arith, deep))
+
       removals : (answer : Answer (Unit {0})) → TestsRemovals work (moved_away (v g.source.root) g.source.root work v) answer → Only Any answer
       removals answer tested =
           removals_met work (moved_view v g.source.root (old_path work))
-          (moved_removable work g.source.root v separate.source (λ rest. laws.none_special g.source.vault (under g.source.root v) done.source.there.good.clean done.source.there.good.orderly rest) limits.removed)
+          (moved_removable work g.source.root v separate.source (λ rest. laws.none_special g.source.vault (under g.source.root v) done.source.there.good.clean done.source.there.good.orderly rest) removed)
           (other_removable work g.source.root v separate.source (codes "stage") refl (stage_removable false work v folders stands is limits.stage))
           (other_removable work g.source.root v separate.source (codes "journal.new") refl (new_removable false work v folders stands is)) answer
           (subst (λ (x : View). TestsRemovals work x answer) (sym (away_there g.source.root work v (v g.source.root) is_there)) tested)

@@ -19,11 +19,10 @@ pub record KeepsLimits (a : OpenedVault) (v : View) : Type 0 where
   pub items : IsWithin (format_of a.vault) (under a.root v)
   pub contents : (path : plain.Path) (at : Path) → standing (format_of a.vault) (under a.root v) path ≡ File at → (content_at (format_of a.vault).content v (a.root ++ at)).ending ≢ Wanting
 
--- neither vault passes one, nor what is removed
+-- neither vault passes one, nor what is removed beside the source
 pub record PassesNoLimit (g : Migration) (v : View) : Type 0 where
   pub source : KeepsLimits g.source v
   pub target : KeepsLimits g.target v
-  pub removed : IsShallow g.source.root v
   pub old : IsShallow (old_path g.work) v
   pub stage : IsShallow (stage_path g.work) v
 

@@ -17,7 +17,7 @@ use tree_match::laws::{
     mapped_walks_tell_the_mapped_tree, walks_tell_the_tree, what_is_held_opens_the_same,
 };
 use vault_read::laws::roots_have_one_answer;
-use vault_spec::laws::entries_of_clean_vaults_are_accounted_for;
+use vault_spec::laws::{clean_vaults_are_shallow, entries_of_clean_vaults_are_accounted_for};
 
 /// Below the root of a clean vault that is in good order are only files and directories.
 pub fn clean_vaults_have_only_files_and_directories()
@@ -32,6 +32,7 @@ pub fn what_can_be_retired_is_retired()
     ensures { (g : Migration) (from_pass to_pass : List ℕ) (v : View) (answer : Result Retired RetireFault) → HasFolders v → AreOpenedBy g from_pass to_pass v → CanRetire g v
         → Retires g.work from_pass to_pass v answer → IfErr answer IsOfFolder }
 {
+    clean_vaults_are_shallow();
     clean_vaults_have_only_files_and_directories();
     journals_are_read_back();
     mapped_trees_are_held();

@@ -37,5 +37,5 @@ returns-clause-ends g c count sees =
       whole = c.small_contents_pass_no_limit.ensures.whole;
     } in
     c.refused.ensures.folder
-    (carried_retires laws c.walks_tell_the_tree.ensures.plan c.clean_vaults_are_shallow.ensures (IsOfFolder c.in-Err.fault) c.args.leg count c.in_ok-work.work (g.F.Folder.told c.args.folder.now) (λ a is. g.met.F.Folder.sound c.args.folder.now a is)
+    (carried_retires laws c.walks_tell_the_tree.ensures.plan (IsOfFolder c.in-Err.fault) c.args.leg count c.in_ok-work.work (g.F.Folder.told c.args.folder.now) (λ a is. g.met.F.Folder.sound c.args.folder.now a is)
     c.in_ok-work.ensures.is c.in-Err.ensures.completes sees)

@@ -14,4 +14,5 @@ returns c = λ g from_pass to_pass v answer folders opened can tested.
         holds = c.what_is_held_opens_the_same.ensures.holds;
       };
       none_special = c.clean_vaults_have_only_files_and_directories.ensures;
+      shallow = c.clean_vaults_are_shallow.ensures;
     }) g from_pass to_pass v answer folders opened can tested

@@ -66,10 +66,13 @@ pub place_is_file_fault : (fault : PutFault) → IsPlaceFault fault → IsFileFa
 place_is_file_fault (puts.Find fault) place = place
 place_is_file_fault fault place = tt
 
+pub directory_is_place_fault : (vault : OpenedVault) (path : plain.Path) (told : Option Told) (fault : PutFault) → IsAtDirectory vault path told fault → IsPlaceFault fault
+directory_is_place_fault vault path told fault (inl failed) = subst IsPlaceFault (sym failed) tt
+directory_is_place_fault vault path told fault (inr (inl memory)) = subst IsPlaceFault (sym memory) tt
+directory_is_place_fault vault path told fault (inr (inr found)) = subst IsPlaceFault (sym found.0) tt
+
 pub directory_is_file_fault : (vault : OpenedVault) (path : plain.Path) (told : Option Told) (fault : PutFault) → IsAtDirectory vault path told fault → IsFileFault fault
-directory_is_file_fault vault path told fault (inl failed) = subst IsFileFault (sym failed) tt
-directory_is_file_fault vault path told fault (inr (inl memory)) = subst IsFileFault (sym memory) tt
-directory_is_file_fault vault path told fault (inr (inr found)) = subst IsFileFault (sym found.0) tt
+directory_is_file_fault vault path told fault is = place_is_file_fault fault (directory_is_place_fault vault path told fault is)
 
 -- writing a content looks for no path
 pub stop_is_file_fault : (keys : Keys) (w : Writing) (fault : PutFault) → StopsBy keys w fault → IsFileFault fault

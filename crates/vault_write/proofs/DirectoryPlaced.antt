@@ -9,7 +9,7 @@ use Rattle.chunk_files.specs.Keys as contents
 use Rattle.chunk_files.specs.Keys.{Keys}
 use Rattle.chunk_files.specs.Zeros.{is_all_zero}
 use Rattle.content_writing.specs.Content.{Whole}
-use Rattle.content_writing.specs.Writing.{DrewNoZeros, HasZeros}
+use Rattle.content_writing.specs.Writing.{DrewNoZeros, DrewZeros, HasZeros}
 use Rattle.content_writing.proofs.Sixteens.{drawn_so_far}
 use Rattle.content_writing.specs.Faults.{of_folder}
 use Rattle.content_writing.specs.declared.fault.PutFault.{PutFault}
@@ -63,11 +63,11 @@ drawn_none (Some stream) = λ place. refl
 
 -- nothing was changed
 pub refused_one : (p : Placing) (drawn : List ℕ) (s s' : Stream) (t u : Option Told) (fault : PutFault) (result : Result (Unit {0}) PutFault)
-    → Draws s s' drawn → length drawn ≤ draws (format p) p.item → u ≡ t → IfSeen t (λ v. Answers p drawn Whole (under p.vault.root v) (Err fault)) → IsErrAnd result (λ e. e ≡ fault)
+    → Draws s s' drawn → length drawn ≤ draws (format p) p.item → (fault ≡ puts.ZeroRandom → DrewZeros (format p).content drawn) → u ≡ t → IfSeen t (λ v. Answers p drawn Whole (under p.vault.root v) (Err fault)) → IsErrAnd result (λ e. e ≡ fault)
     → PlacesOne p s s' t u result
-refused_one p drawn s s' t u fault result were few same answer by_fault =
+refused_one p drawn s s' t u fault result were few zeros same answer by_fault =
     at_fault (PlacesOne p s s' t u) result fault by_fault
-    (subst (λ x. PlacesOne p s s' t x (Err fault)) (sym same) (record { drawn = drawn; were_drawn = were; one = one_refused New p Whole drawn t fault few answer }))
+    (subst (λ x. PlacesOne p s s' t x (Err fault)) (sym same) (record { drawn = drawn; were_drawn = were; one = one_refused New p Whole drawn t fault few zeros answer }))
 
 -- a call that did the edits failed, or made the item
 module _ (shows : EditsShowTrees) (settles : SettledEditsShowTrees) (roots : RootsShow) (p : Placing) (drawn : List ℕ) (m : Making) (s s' : Stream) (t w : Option Told)
@@ -131,15 +131,20 @@ key_has_bits keys key size some (suc number) has = let long : 16 * suc (suc numb
 pub go_undrawn : (vault : OpenedVault) → kind_of vault.vault ≡ kind.Gocryptfs → (work : Path) (front : plain.Path) (name : List ℕ) (s s' : Stream) (t u : Option Told) (fault : PutFault) (result : Result (Unit {0}) PutFault)
     → DrawsSome s s' (Err fault) → u ≡ t → IsErrAnd result (λ e. e ≡ fault) → PlacesOne (placing vault work front name NewDirectory) s s' t u result
 go_undrawn vault is work front name s s' t u fault result h same by_fault =
-    refused_one (placing vault work front name NewDirectory) h.drawn s s' t u fault result h.were_drawn (few fault h.drew) same (λ v seen_so. answer fault (under vault.root v) h.drew) by_fault
+    refused_one (placing vault work front name NewDirectory) h.drawn s s' t u fault result h.were_drawn (few fault h.drew) (λ is_zero. drew_zeros fault is_zero h.drew) same (λ v seen_so. answer fault (under vault.root v) h.drew) by_fault
   where
     few : (fault : PutFault) → SomeDrew h.bytes h.drawn (Err fault) → length h.drawn ≤ 16
     few puts.ZeroRandom k = let size : length h.drawn ≡ 16 = ap length k.0 ∙ h.sizes.size in omega (arith, size)
     few puts.Random k = let size : length h.drawn ≡ 0 = ap length k in omega (arith, size)
     few fault k = absurd k
 
+    drew_zeros : (fault : PutFault) → fault ≡ puts.ZeroRandom → SomeDrew h.bytes h.drawn (Err fault) → DrewZeros (format_of vault.vault).content h.drawn
+    drew_zeros puts.ZeroRandom same k = (0, record { refused = refuses_zeros vault.vault is; zeros = ap (take 16) (k.0 ∙ zeros_are 16 h.bytes h.sizes.size k.1) }, ap length k.0 ∙ h.sizes.size)
+    drew_zeros puts.Random same k = cc same
+    drew_zeros fault same k = absurd k
+
     answer : (fault : PutFault) (v : View) → SomeDrew h.bytes h.drawn (Err fault) → Answers (placing vault work front name NewDirectory) h.drawn Whole v (Err fault)
-    answer puts.ZeroRandom v k = (0, record { refused = refuses_zeros vault.vault is; zeros = ap (take 16) (k.0 ∙ zeros_are 16 h.bytes h.sizes.size k.1) }, ap length k.0 ∙ h.sizes.size)
+    answer puts.ZeroRandom v k = drew_zeros puts.ZeroRandom refl k
     answer puts.Random v k = tt
     answer fault v k = absurd k
 
@@ -204,8 +209,14 @@ is_id id size characters = rw (characters_small id characters, size) refl
 pub undrawn_one : (vault : OpenedVault) (work : Path) (front : plain.Path) (name : List ℕ) (s s' : Stream) (t u : Option Told) (fault : PutFault) (result : Result (Unit {0}) PutFault)
     → DrewAtMost 16 s s' → (fault ≡ puts.Random) ⊎ (fault ≡ puts.NoMemory) → u ≡ t → IsErrAnd result (λ e. e ≡ fault) → PlacesOne (placing vault work front name NewDirectory) s s' t u result
 undrawn_one vault work front name s s' t u fault result h kinds same by_fault =
-    refused_one (placing vault work front name NewDirectory) h.drawn s s' t u fault result h.were_drawn h.few same (λ v seen_so. answer (under vault.root v)) by_fault
+    refused_one (placing vault work front name NewDirectory) h.drawn s s' t u fault result h.were_drawn h.few undrawn same (λ v seen_so. answer (under vault.root v)) by_fault
   where
+    undrawn : fault ≡ puts.ZeroRandom → DrewZeros (format_of vault.vault).content h.drawn
+    undrawn zeros = elim kinds [
+      | inl random ↦ cc
+      | inr memory ↦ cc
+    ]
+
     answer : (v : View) → Answers (placing vault work front name NewDirectory) h.drawn Whole v (Err fault)
     answer v = elim kinds [
       | inl random ↦ subst (λ x. Answers (placing vault work front name NewDirectory) h.drawn Whole v (Err x)) (sym random) tt

@@ -37,7 +37,7 @@ use Rattle.content_writing.specs.Faults.{of_folder}
 use Rattle.content_writing.specs.Writing.{DrewNoZeros}
 use Rattle.content_writing.specs.declared.fault.PutFault.{PutFault}
 use Rattle.content_writing.specs.declared.fault.PutFault.TheVariants as puts
-use Rattle.vault_write.specs.Calls.{AnswersBy, How, InPlace, MakesFile, MakesOne, New, ReadsElsewhere, Writing}
+use Rattle.vault_write.specs.Calls.{AnswersBy, How, InPlace, IsOfMaking, MakesFile, MakesOne, New, ReadsElsewhere, Writing}
 use Rattle.vault_write.specs.Editing.{AddsEdits, Edits, HasBegun, HasEdited, HasFinished, IsEditing, MayCome, SeesSome, side_edits}
 use Rattle.vault_write.specs.Faults.{IsFileFault}
 use Rattle.vault_write.specs.Filing.{DoesLast, IsWhole, OnlyStages, PlacesEntry, PlacesBy, PlacesFile, StopsBy, entry_edit, entry_files}
@@ -53,7 +53,7 @@ use Rattle.vault_write.proofs.Exits.{at_fault}
 use Rattle.vault_write.proofs.FileBegun.{IsFiled, SlotAt, file_making, file_places, filed_in_cm, filed_in_go, is_begun, opens_whole}
 use Rattle.vault_write.proofs.Filing.{edits_still, placed_still, stops_folder, takes_none, untaken}
 use Rattle.vault_write.proofs.Found.{Enters}
-use Rattle.vault_write.proofs.ItemMade.{IsBegun, IsRootFault, IsSplit, RootsShow, at_itself, by_root, makes_named, makes_root, one_failed, one_ok, one_refused, one_stopped, root_fault, split}
+use Rattle.vault_write.proofs.ItemMade.{IsBegun, IsRootFault, IsSplit, MayRefuse, RootsShow, at_itself, by_root, makes_named, makes_root, one_failed, one_ok, one_refused, one_stopped, root_fault, split}
 use Rattle.vault_write.proofs.Placed.{doing_first, entry_may, none_among}
 use Rattle.vault_write.proofs.Seeing.{if_seen}
 use Rattle.vault_write.proofs.Stages.{root_unstaged}
@@ -113,10 +113,10 @@ module _ (keeps : EditsBeforeTheLastKeepTrees) (roots : RootsShow) (p : Placing)
         (fronts_keep (format p) (under p.vault.root (seen a.state)) (under p.vault.root (seen a.state)) parts.first parts.rest filed.at_last (path_of p) opens (λ path. refl)
         (subst (λ es. ComesAtLast (format p) (under p.vault.root (seen a.state)) (under p.vault.root (seen a.state)) (es ++ filed.at_last ∷ []) (path_of p) opens) parts.is filed.last))
 
-  pub filed_in_part : (t w : Option Told) → ((a : Told) → t ≡ Some a → IsFiled p opens drawn firsts e some_files a) → (ending : Ending) (fault : PutFault) → length drawn ≤ making.draws (format p) p.item
+  pub filed_in_part : (t w : Option Told) → ((a : Told) → t ≡ Some a → IsFiled p opens drawn firsts e some_files a) → (ending : Ending) (fault : PutFault) → MayRefuse p drawn t w fault
       → FromTo (Edits p.work p.vault.root (stopped_making firsts some_files)) t w → IfSeen t (λ v. Answers p drawn ending (under p.vault.root v) (Err fault)) → MakesOne New p ending drawn t w (Err fault)
-  filed_in_part t w filed ending fault enough =
-      one_stopped New p ending drawn (Edits p.work p.vault.root (stopped_making firsts some_files)) t w fault enough (λ a b is k. went_stopped ending a b (filed a is) k) (λ a b is k. opens_still a b (filed a is) k)
+  filed_in_part t w filed ending fault may =
+      one_stopped New p ending drawn (Edits p.work p.vault.root (stopped_making firsts some_files)) t w fault may (λ a b is k. went_stopped ending a b (filed a is) k) (λ a b is k. opens_still a b (filed a is) k)
 
 -- ---- what is answered
 
@@ -132,18 +132,28 @@ answers_stopped p w u (puts.Find fault) free stops = absurd stops
 answers_stopped p w u (puts.NotAllowed path) free stops = absurd stops
 answers_stopped p w u (puts.Taken at) free stops = absurd stops
 
+-- writing stops once the making has begun
+pub stopped_by : (p : Placing) (w : Writing) (t s : Option Told) (fault : PutFault) → length w.drawn ≤ making.draws (format p) p.item → StopsBy (format p).content w fault → MayRefuse p w.drawn t s fault
+stopped_by p w t s fault few stops = record { few = few; tested = inl (goes_on fault stops); zeros = λ same. subst (StopsBy (format p).content w) same stops }
+  where
+    goes_on : (fault : PutFault) → StopsBy (format p).content w fault → IsOfMaking fault
+    goes_on (puts.Find fault) stops = stops
+    goes_on (puts.NotAllowed path) stops = stops
+    goes_on (puts.Taken at) stops = stops
+    goes_on fault stops = tt
+
 -- ---- under a name
 
 -- refused before anything was changed
 pub file_refused : {vault : OpenedVault} {work : Path} {front : plain.Path} {name : List ℕ} {coming : Option Coming} {stream : Option ByteStream} {t u : Option Told} {result : Result (Unit {0}) PutFault} (how : How) (fault : PutFault)
-    → IsErrAnd result (λ e. e ≡ fault) → u ≡ t → ((content : List ℕ) (ending : Ending) → IfSeen t (λ v. AnswersBy how (placing vault work front name (NewFile content)) [] ending (under vault.root v) (Err fault)))
+    → IsErrAnd result (λ e. e ≡ fault) → fault ≢ puts.ZeroRandom → u ≡ t → ((content : List ℕ) (ending : Ending) → IfSeen t (λ v. AnswersBy how (placing vault work front name (NewFile content)) [] ending (under vault.root v) (Err fault)))
     → PlacesFile how vault work front name coming coming stream stream t u result
-file_refused {vault} {work} {front} {name} {coming} {stream} {t} {u} {result} how fault by_fault same answers =
+file_refused {vault} {work} {front} {name} {coming} {stream} {t} {u} {result} how fault by_fault some same answers =
     subst (λ o. PlacesFile how vault work front name coming coming stream stream t o result) (sym same)
     (at_fault (PlacesFile how vault work front name coming coming stream stream t t) result fault by_fault (record {
       writing = untaken coming;
       takes = takes_none (format_of vault.vault).content coming stream fault;
-      one = one_refused how (placing vault work front name (NewFile (untaken coming).content)) (untaken coming).ending [] t fault (omega arith) (answers (untaken coming).content (untaken coming).ending);
+      one = one_refused how (placing vault work front name (NewFile (untaken coming).content)) (untaken coming).ending [] t fault (omega arith) (λ none. absurd (some none)) (answers (untaken coming).content (untaken coming).ending);
     }))
 
 -- a making of edits at a root may begin
@@ -205,7 +215,7 @@ module _ (shows : EditsShowTrees) (keeps : EditsBeforeTheLastKeepTrees) (settles
       writing = untaken coming;
       takes = takes_none keys coming stream (of_folder fault);
       one = filed_in_part keeps roots (place (untaken coming).content) (opens_so (untaken coming).content []) [] firsts (last_edit (untaken coming).content []) (all_files (untaken coming).content []) t u
-          (filed (untaken coming).content []) (untaken coming).ending (of_folder fault) (omega arith) (some_done (Err fault) adds (untaken coming).content []).0
+          (filed (untaken coming).content []) (untaken coming).ending (of_folder fault) (stopped_by (place (untaken coming).content) (untaken coming) t u (of_folder fault) (omega arith) (stops_folder keys (untaken coming) fault)) (some_done (Err fault) adds (untaken coming).content []).0
           (λ v is. answers_stopped (place (untaken coming).content) (untaken coming) (under vault.root v) (of_folder fault) (free_at (untaken coming).content [] v is) (stops_folder keys (untaken coming) fault));
     }
 
@@ -224,7 +234,7 @@ module _ (shows : EditsShowTrees) (keeps : EditsBeforeTheLastKeepTrees) (settles
       -- it only was staged
       stopped_one : (fault : PutFault) → StopsBy keys w fault → OnlyStages work (entry_files inside (encrypt keys w.drawn w.content)) u s → MakesOne New (place w.content) w.ending w.drawn t s (Err fault)
       stopped_one fault stops stages =
-          filed_in_part keeps roots (place w.content) (opens_so w.content w.drawn) w.drawn firsts (last_edit w.content w.drawn) (all_files w.content w.drawn) t s (filed w.content w.drawn) w.ending fault enough
+          filed_in_part keeps roots (place w.content) (opens_so w.content w.drawn) w.drawn firsts (last_edit w.content w.drawn) (all_files w.content w.drawn) t s (filed w.content w.drawn) w.ending fault (stopped_by (place w.content) w t s fault enough stops)
           (stages vault.root (stopped_making firsts (all_files w.content w.drawn)) firsts [] t (entry_within (encrypt keys w.drawn w.content)) (some_done (Ok tt) adds w.content w.drawn).1).0
           (λ v is. answers_stopped (place w.content) w (under vault.root v) fault (free_at w.content w.drawn v is) stops)
 

@@ -27,12 +27,12 @@ use Rattle.vault_spec.specs.Tidy.{IsTidy}
 use Rattle.folder_spec.specs.declared.FolderFault.TheVariants as folder
 use Rattle.content_writing.specs.Faults.{of_folder}
 use Rattle.content_writing.specs.Content.{Ending, Whole}
-use Rattle.content_writing.specs.Writing.{Blames, DrewNoZeros}
+use Rattle.content_writing.specs.Writing.{Blames, DrewNoZeros, DrewZeros}
 use Rattle.content_writing.specs.declared.fault.PutFault.{PutFault}
 use Rattle.content_writing.specs.declared.fault.PutFault.TheVariants as puts
 use Rattle.work_folder.specs.Entering.{IsReady}
 use Rattle.vault_faults.specs.declared.fault.FindFault.TheVariants as finds
-use Rattle.vault_write.specs.Calls.{AnswersBy, AnswersRoot, How, InPlace, MakesAt, MakesOne, New, making_by}
+use Rattle.vault_write.specs.Calls.{AnswersBy, AnswersRoot, How, InPlace, IsOfMaking, MakesAt, MakesOne, New, making_by}
 use Rattle.vault_write.specs.Editing.{IsEditing, SeesSome, Edits, HasFinished}
 use Rattle.content_writing.specs.Making.{Placing, Making, format, path_of, new_item, is_unstaged, is_elsewhere, StagesOrPlaces}
 use Rattle.content_writing.specs.Placing.{IsMaking, ShowsNewTree, making_at, EndsAs}
@@ -106,6 +106,23 @@ RootsShow = (root : Path) (v : View) (edits : List Edit) → under root (view_af
 abbrev OldOrNewOpens : Placing → View → View → Type 0
 OldOrNewOpens p u v = IsOrderly (format p) u → OpensAs (format p) u v ⊎ OpensWith (format p) u v (path_of p) (opens_as p.item)
 
+-- a folder's fault comes once the making has begun, and is no word of zeros
+pub folder_making : (fault : FolderFault) → IsOfMaking (of_folder fault)
+folder_making folder.Failed = tt
+folder_making folder.Refused = tt
+folder_making folder.NoMemory = tt
+
+folder_drew : (fault : FolderFault) → of_folder fault ≢ puts.ZeroRandom
+folder_drew folder.Failed = λ same. cc same
+folder_drew folder.Refused = λ same. cc same
+folder_drew folder.NoMemory = λ same. cc same
+
+abbrev failing : PutFault → Result (Unit {0}) PutFault
+failing fault = Err fault
+
+one_error : {a b : PutFault} → failing a ≡ failing b → a ≡ b
+one_error same = cc same
+
 -- after the folder failed
 ends_failed_by : (p : Placing) (fault : FolderFault) (u v : View) → OldOrNewOpens p u v → EndsAs p u v (Err (of_folder fault))
 ends_failed_by p folder.Failed u v opens = opens
@@ -144,6 +161,8 @@ module _ (how : How) (p : Placing) (drawn : List ℕ) (m : Making) (t w : Option
       ends = seen_both (HasFinished p.work p.vault.root m) (λ u v. EndsAs p (under p.vault.root u) (under p.vault.root v) (Ok tt)) t w (λ a b is k. (brings a b is).opens k) finished;
     };
     answer = answer;
+    tested = tt;
+    zeros = λ clash. cc clash;
   }
 
   pub one_broken : (fault : FolderFault) → IfSeen t (λ v. AnswersBy how p drawn Whole (under p.vault.root v) (Err (of_folder fault))) → MakesOne how p Whole drawn t w (Err (of_folder fault))
@@ -157,15 +176,24 @@ module _ (how : How) (p : Placing) (drawn : List ℕ) (m : Making) (t w : Option
           (λ a b is k. ends_failed_by p fault (under p.vault.root (seen a.state)) (under p.vault.root (seen b.state)) ((brings a b is).old_or_new k)) went;
     };
     answer = answer;
+    tested = inl (folder_making fault);
+    zeros = λ same. absurd (folder_drew fault (one_error same));
   }
 
+-- What is to be known of a fault, whether or not the folder tells its state: a test refused and nothing was changed, or the making had
+-- begun; and zeros were drawn that are refused.
+pub record MayRefuse (p : Placing) (drawn : List ℕ) (t w : Option Told) (fault : PutFault) : Type 0 where
+  pub few : length drawn ≤ draws (format p) p.item
+  pub tested : IsOfMaking fault ⊎ (w ≡ t)
+  pub zeros : fault ≡ puts.ZeroRandom → DrewZeros (format p).content drawn
+
 -- where what opens stayed
-pub one_stopped : (how : How) (p : Placing) (ending : Ending) (drawn : List ℕ) (R : Told → Told → Type 0) (t w : Option Told) (fault : PutFault) → length drawn ≤ draws (format p) p.item
+pub one_stopped : (how : How) (p : Placing) (ending : Ending) (drawn : List ℕ) (R : Told → Told → Type 0) (t w : Option Told) (fault : PutFault) → MayRefuse p drawn t w fault
     → ((a b : Told) → t ≡ Some a → R a b → Went (IsMaking p ending (making_at p (making_by how p drawn) a.state) a.state) (λ s e. StagesOrPlaces p.work (making_at p (making_by how p drawn) a.state) s e.call) a b)
     → ((a b : Told) → t ≡ Some a → R a b → OpensAs (format p) (under p.vault.root (seen a.state)) (under p.vault.root (seen b.state)))
     → FromTo R t w → IfSeen t (λ v. AnswersBy how p drawn ending (under p.vault.root v) (Err fault)) → MakesOne how p ending drawn t w (Err fault)
-one_stopped how p ending drawn R t w fault enough went stays h answer = record {
-  enough = enough;
+one_stopped how p ending drawn R t w fault may went stays h answer = record {
+  enough = may.few;
   makes = record {
     moments = from_to_more R
         (λ a b. Went (IsMaking p ending (making_at p (making_by how p drawn) a.state) a.state) (λ s e. StagesOrPlaces p.work (making_at p (making_by how p drawn) a.state) s e.call) a b) t w went h;
@@ -175,13 +203,15 @@ one_stopped how p ending drawn R t w fault enough went stays h answer = record {
         (λ a b is k. ends_stopped p fault (under p.vault.root (seen a.state)) (under p.vault.root (seen b.state)) (stays a b is k)) h;
   };
   answer = answer;
+  tested = may.tested;
+  zeros = λ same. may.zeros (one_error same);
 }
 
 -- where nothing was changed
-pub one_refused : (how : How) (p : Placing) (ending : Ending) (drawn : List ℕ) (t : Option Told) (fault : PutFault) → length drawn ≤ draws (format p) p.item
+pub one_refused : (how : How) (p : Placing) (ending : Ending) (drawn : List ℕ) (t : Option Told) (fault : PutFault) → length drawn ≤ draws (format p) p.item → (fault ≡ puts.ZeroRandom → DrewZeros (format p).content drawn)
     → IfSeen t (λ v. AnswersBy how p drawn ending (under p.vault.root v) (Err fault)) → MakesOne how p ending drawn t t (Err fault)
-one_refused how p ending drawn t fault enough answer =
-    one_stopped how p ending drawn (λ a b. b ≡ a) t t fault enough (λ a b is same. subst (Makes a) (sym same) (nowhere a))
+one_refused how p ending drawn t fault few zeros answer =
+    one_stopped how p ending drawn (λ a b. b ≡ a) t t fault (record { few = few; tested = inr refl; zeros = zeros }) (λ a b is same. subst (Makes a) (sym same) (nowhere a))
     (λ a b is same path. ap (λ (c : Told). opened (format p) (under p.vault.root (seen c.state)) path) same) (from_to_same (λ a b. b ≡ a) t t refl (λ a. refl)) answer
   where
     Makes : Told → Told → Type 0

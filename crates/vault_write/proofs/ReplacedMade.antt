@@ -43,8 +43,8 @@ use Rattle.vault_write.specs.Slots.{placing}
 use Rattle.content_writing.specs.Trees.{StaysGood, opens_as}
 use Rattle.vault_write.proofs.Begun.{folders_seen}
 use Rattle.vault_write.proofs.FileBegun.{opens_whole}
-use Rattle.vault_write.proofs.FileMade.{begins_at, first_shown, stopped_making}
-use Rattle.vault_write.proofs.ItemMade.{Brings, RootsShow, one_broken, one_stopped, one_whole}
+use Rattle.vault_write.proofs.FileMade.{begins_at, first_shown, stopped_by, stopped_making}
+use Rattle.vault_write.proofs.ItemMade.{Brings, MayRefuse, RootsShow, one_broken, one_stopped, one_whole}
 use Rattle.vault_write.proofs.Seeing.{if_seen}
 
 -- Where the edit is done, this opens there.
@@ -193,10 +193,10 @@ module _ (keeps : EditsBeforeTheLastKeepTrees) (roots : RootsShow) (p : Placing)
         by_done [] more is views = subst (λ w. OpensAs (format p) (under p.vault.root (seen a.state)) w) (sym (first_shown roots p k.apart k.beside a b [] [] refl views)) (λ path. refl)
         by_done (e ∷ done) more is views = cc
 
-  pub replaced_stopped : (t w : Option Told) → ((a : Told) → t ≡ Some a → IsReplaced p opens drawn at bytes a) → (ending : Ending) (fault : PutFault) → length drawn ≤ making.draws (format p) p.item
+  pub replaced_stopped : (t w : Option Told) → ((a : Told) → t ≡ Some a → IsReplaced p opens drawn at bytes a) → (ending : Ending) (fault : PutFault) → MayRefuse p drawn t w fault
       → FromTo (Edits p.work p.vault.root (stopped_making [] (bytes ∷ []))) t w → ((x : View) → AnswersOver p drawn ending x (Err fault)) → MakesOne InPlace p ending drawn t w (Err fault)
-  replaced_stopped t w k ending fault enough went answers =
-      one_stopped InPlace p ending drawn (Edits p.work p.vault.root (stopped_making [] (bytes ∷ []))) t w fault enough (λ a b is e. went_only ending a b (k a is) e) (λ a b is e. opens_yet a b (k a is) e) went
+  replaced_stopped t w k ending fault may went answers =
+      one_stopped InPlace p ending drawn (Edits p.work p.vault.root (stopped_making [] (bytes ∷ []))) t w fault may (λ a b is e. went_only ending a b (k a is) e) (λ a b is e. opens_yet a b (k a is) e) went
       (answers_over p opens drawn at bytes t k ending (Err fault) answers)
 
 -- ---- by the answer
@@ -236,7 +236,7 @@ module _ (shows : EditsShowTrees) (keeps : EditsBeforeTheLastKeepTrees) (settles
         subst (λ x. MakesOne InPlace (put_place w.content) x w.drawn t s (Ok tt)) (sym whole.whole)
         (replaced_ok shows settles roots (put_place w.content) w.drawn at (encrypt keys w.drawn w.content) t s (whole_at whole) allowed whole.encrypted.enough (accepted (λ clash. cc)) does.0 does.1)
     replaced_one (Err fault) accepted (stops, inl stages) =
-        replaced_stopped keeps roots (put_place w.content) (opens_so w.content w.drawn) w.drawn at (encrypt keys w.drawn w.content) t s (replaced w.content w.drawn) w.ending fault enough
+        replaced_stopped keeps roots (put_place w.content) (opens_so w.content w.drawn) w.drawn at (encrypt keys w.drawn w.content) t s (replaced w.content w.drawn) w.ending fault (stopped_by (put_place w.content) w t s fault enough stops)
         (stages vault.root (stopped_making [] (encrypt keys w.drawn w.content ∷ [])) [] [] t (λ file among. among)
         (begins_at work vault.root (stopped_making [] (encrypt keys w.drawn w.content ∷ [])) t refl (λ a is. ([], refl)) may sound)).0
         (λ x. over_by (put_place w.content) w x fault allowed stops)

@@ -1,5 +1,5 @@
 -- The calls that make an item at a plain path: under which bytes drawn, of which content, and all that follows of these.
-use Rattle.std.specs.Prelude.{◌≡◌, ◌≢◌, ◌≤◌, ℕ, List, [], ◌∷◌, ◌++◌, length, Option, Some, None, Result, Err, OnOk, IfSome}
+use Rattle.std.specs.Prelude.{◌≡◌, ◌≢◌, ◌≤◌, ◌⊎◌, ℕ, List, [], ◌∷◌, ◌++◌, length, Option, Some, None, Result, Err, OnOk, IfErr, IfSome}
 use Rattle.chunk_files.specs.Keys.{Keys}
 use Rattle.port_model.specs.Draws.{ByteStream, Draws}
 use Rattle.folder_spec.specs.Path.{Path, below}
@@ -13,7 +13,7 @@ use Rattle.vault_spec.specs.Opened.{OpenedVault}
 use Rattle.vault_spec.specs.Making.{NewItem, NewDirectory, NewFile, draws}
 use Rattle.vault_spec.specs.Vault.{format_of}
 use Rattle.content_writing.specs.Content.{Coming, Ending, Whole, Gave, HasEnded}
-use Rattle.content_writing.specs.Writing.{DrewNoZeros}
+use Rattle.content_writing.specs.Writing.{DrewNoZeros, DrewZeros}
 use Rattle.content_writing.specs.Making.{Placing, Making, format, new_item, put_item}
 use Rattle.content_writing.specs.Placing.{Makes}
 use Rattle.vault_write.specs.Refusing.{Answers, AnswersPut, TakesRoot, PutsRoot}
@@ -39,11 +39,21 @@ abbrev pub AnswersRoot : How → Path → Result (Unit {0}) PutFault → Type 0
 AnswersRoot New root result = TakesRoot root result
 AnswersRoot InPlace root result = PutsRoot result
 
--- A call makes an item under a name, with these bytes drawn: no more than the item draws.
+-- what may be answered once the making has begun: not that the directory, the name or the place was refused
+abbrev pub IsOfMaking : PutFault → Type 0
+IsOfMaking (puts.Find fault) = ⊥
+IsOfMaking (puts.NotAllowed path) = ⊥
+IsOfMaking (puts.Taken at) = ⊥
+IsOfMaking fault = Unit {0}
+
+-- A call makes an item under a name, with these bytes drawn: no more than the item draws. Where one of the tests refuses, nothing is
+-- changed; zeros are refused only where they were drawn.
 pub record MakesOne (how : How) (p : Placing) (ending : Ending) (drawn : List ℕ) (before after : Option Told) (result : Result (Unit {0}) PutFault) : Type 0 where
   pub enough : length drawn ≤ draws (format p) p.item
   pub makes : Makes p ending (making_by how p drawn) before after result
   pub answer : IfSeen before (λ v. AnswersBy how p drawn ending (under p.vault.root v) result)
+  pub tested : IfErr result (λ fault. IsOfMaking fault ⊎ (after ≡ before))
+  pub zeros : result ≡ Err puts.ZeroRandom → DrewZeros (format p).content drawn
 
 -- at a plain path; the root isn't made
 pub record MakesAt (how : How) (vault : OpenedVault) (work : Path) (path : plain.Path) (item : NewItem) (ending : Ending) (drawn : List ℕ) (before after : Option Told) (result : Result (Unit {0}) PutFault) : Type 0 where

@@ -20,7 +20,7 @@ use Rattle.vault_spec.specs.Opened.{OpenedVault}
 use Rattle.vault_faults.specs.declared.fault.FindFault.TheVariants as finds
 use Rattle.vault_spec.specs.Making.{NewItem, NewDirectory}
 use Rattle.vault_spec.specs.Vault.{Vault}
-use Rattle.vault_write.specs.Calls.{How, New, making_by, AnswersBy, MakesOne, MakesAt, MakesDirectory}
+use Rattle.vault_write.specs.Calls.{How, New, IsOfMaking, making_by, AnswersBy, MakesOne, MakesAt, MakesDirectory}
 use Rattle.vault_write.specs.Faults.{IsDirectoryFault}
 use Rattle.content_writing.specs.Making.{Placing, Making, format, path_of, is_elsewhere, StagesOrPlaces}
 use Rattle.content_writing.specs.Placing.{ShowsOne, ShowsNewTree, IsMaking, EndsAs, making_at}
@@ -33,7 +33,7 @@ use Rattle.command_beginning.proofs.Sites.{site_then}
 use Rattle.command_beginning.specs.Beginning.{IsBeginning, ChangesWork, OfSite, OfWork}
 use Rattle.command_opening.specs.Tests.{is_of_beginning}
 use Rattle.writing_commands.specs.Faults.{answer_to_making}
-use Rattle.writing_commands.specs.Items.{ChangesThere, ChangesVault, ShowsOneBeside, ShowsNewTreeBeside, IsMakingBeside, MakesNamed, MakesItem, MakesIn}
+use Rattle.writing_commands.specs.Items.{ChangesNoVault, ChangesThere, ChangesVault, ShowsOneBeside, ShowsNewTreeBeside, IsMakingBeside, MakesNamed, MakesItem, MakesIn}
 use Rattle.writing_commands.specs.Mkdir.{MakesDirectoryIn, is_of_directory}
 use Rattle.command_opening.specs.Opening.{Opens, OfVault}
 use Rattle.command_opening.specs.Places.{overlap}
@@ -138,7 +138,14 @@ named_made outside alike how p ending drawn t u w result sound apart begins one 
       answer = λ v is.
           let after : (y : View) × IsSeen u y × (under p.vault.root y ≡ under p.vault.root v) = under_then outside alike p ending making apart t u w sound begins v is in
           subst (λ z. AnswersBy how p drawn ending z result) after.2 (one.answer after.0 after.1);
+      tested = tested result one.tested;
+      zeros = one.zeros;
     }
+  where
+    tested : (result : Result (Unit {0}) PutFault) → IfErr result (λ fault. IsOfMaking fault ⊎ (w ≡ u)) → IfErr result (λ fault. IsOfMaking fault ⊎ ChangesNoVault p.work t w)
+    tested (Ok value) holds = tt
+    tested (Err fault) (inl begun) = inl begun
+    tested (Err fault) (inr same) = inr (went_alone p.work t w (subst (ChangesWork p.work t) (sym same) begins))
 
 -- ---- at a plain path
 

@@ -4,6 +4,7 @@ use Rattle.vault_spec.specs.Making.{NewDirectory}
 use Rattle.vault_write.specs.Editing.{cm_making}
 use Rattle.vault_write.specs.Slots.{placing}
 use Rattle.vault_write.proofs.DirectoryPlaced.{refused_one, undrawn_one, home_refused, is_cryptomator, is_id, cm_may, failed_one, done_one, none_refused}
+use Rattle.vault_write.proofs.Exits.{place_drew}
 use Rattle.vault_write.proofs.directory.place_cm.Goals as goal
 
 pub returns-in_err-text-clause-made : goal.returns-in_err-text-clause-made
@@ -15,7 +16,7 @@ home_of-requires g c = is_cryptomator c.args.vault.now.vault c.requires.kind
 
 pub returns-in_err-home-clause-made : goal.returns-in_err-home-clause-made
 returns-in_err-home-clause-made g c =
-    refused_one (placing c.args.vault.now c.args.work.now c.args.front.now c.args.name.now NewDirectory) c.in_ok-text.ensures.drawn.drawn (g.R.Randoms.left c.args.random.now) (g.R.Randoms.left c.draw_id.new.random) (g.F.Folder.told c.args.folder.now) (g.F.Folder.told c.home_of.new.folder) c.in_err-home.field-0.0 c.from_residual-in_err-home.result c.in_ok-text.ensures.drawn.were_drawn (omega (arith, c.in_ok-text.ensures.drawn.sixteen)) c.home_of.ensures.told
+    refused_one (placing c.args.vault.now c.args.work.now c.args.front.now c.args.name.now NewDirectory) c.in_ok-text.ensures.drawn.drawn (g.R.Randoms.left c.args.random.now) (g.R.Randoms.left c.draw_id.new.random) (g.F.Folder.told c.args.folder.now) (g.F.Folder.told c.home_of.new.folder) c.in_err-home.field-0.0 c.from_residual-in_err-home.result c.in_ok-text.ensures.drawn.were_drawn (omega (arith, c.in_ok-text.ensures.drawn.sixteen)) (place_drew c.in_err-home.field-0.0 c.in_err-home.ensures.kind) c.home_of.ensures.told
     (home_refused c.args.vault.now.root c.args.vault.now.vault c.requires.kind c.args.work.now c.args.front.now c.args.name.now c.as_bytes-id.result.now c.in_ok-text.ensures.drawn.drawn (g.F.Folder.told c.args.folder.now) c.args.slot.now.at c.args.slot.now.side c.args.slot.now.full (c.as_bytes-id.ensures.value ∙ c.in_ok-text.ensures.drawn.is) c.requires.slot c.in_err-home.field-0.0 c.in_err-home.ensures.taken) c.from_residual-in_err-home.ensures.1
 
 pub make_cm-requires-clause-begun : goal.make_cm-requires-clause-begun

@@ -5,7 +5,7 @@ use Rattle.content_writing.specs.Faults.{of_folder}
 use Rattle.vault_spec.specs.Making.{NewFile}
 use Rattle.vault_write.specs.Calls.{New}
 use Rattle.vault_write.specs.Filing.{PlacesFile}
-use Rattle.vault_write.proofs.Exits.{at_fault}
+use Rattle.vault_write.proofs.Exits.{at_fault, place_drew}
 use Rattle.vault_write.proofs.FileBegun.{file_places}
 use Rattle.vault_write.proofs.FileMade.{file_refused, go_failed, go_may, go_placed, go_ready}
 use Rattle.vault_write.proofs.Filing.{reads_outside}
@@ -14,7 +14,7 @@ use Rattle.vault_write.proofs.file.place_go.Goals as goal
 
 pub returns-in_err-wants-clause-made : goal.returns-in_err-wants-clause-made
 returns-in_err-wants-clause-made g c =
-    file_refused New c.in_err-wants.field-0.0 c.from_residual.ensures.1 c.wants_side.ensures.told
+    file_refused New c.in_err-wants.field-0.0 c.from_residual.ensures.1 (place_drew c.in_err-wants.field-0.0 c.in_err-wants.ensures.kind) c.wants_side.ensures.told
     (λ content. side_refused c.args.vault.now.root c.args.vault.now.vault c.requires.kind c.args.front.now c.args.name.now (g.F.Folder.told c.args.folder.now) c.args.slot.now.at c.args.slot.now.side c.args.slot.now.full
     c.requires.slot (NewFile content) c.in_err-wants.field-0.0 c.in_err-wants.ensures.taken c.args.work.now)
 

@@ -5,4 +5,4 @@ use Rattle.vault_write.proofs.FileMade.{file_refused}
 use Rattle.vault_write.proofs.file.place_in.Goals as goal
 
 pub returns-in_err-buffers-clause-made : goal.returns-in_err-buffers-clause-made
-returns-in_err-buffers-clause-made g c = file_refused New puts.NoMemory c.from_residual.ensures.1 refl (λ content ending v is. tt)
+returns-in_err-buffers-clause-made g c = file_refused New puts.NoMemory c.from_residual.ensures.1 (λ same. cc same) refl (λ content ending v is. tt)

@@ -1,13 +1,14 @@
 use Rattle.vault_spec.specs.Making.{NewFile}
 use Rattle.vault_write.specs.Calls.{New}
 use Rattle.vault_write.specs.Slots.{placing}
+use Rattle.vault_write.proofs.Exits.{place_drew}
 use Rattle.vault_write.proofs.FileMade.{file_refused, placed_at}
 use Rattle.vault_write.proofs.Keeping.{kept_on}
 use Rattle.vault_write.proofs.file.place_named.Goals as goal
 
 pub returns-in_err-here-clause-made : goal.returns-in_err-here-clause-made
 returns-in_err-here-clause-made g c =
-    file_refused New c.in_err-here.field-0.0 c.from_residual.ensures.1 c.kept_or_entered.ensures.told (λ content. c.in_err-here.ensures.refused c.args.name.now (NewFile content) c.args.work.now)
+    file_refused New c.in_err-here.field-0.0 c.from_residual.ensures.1 (place_drew c.in_err-here.field-0.0 c.in_err-here.ensures.kind) c.kept_or_entered.ensures.told (λ content. c.in_err-here.ensures.refused c.args.name.now (NewFile content) c.args.work.now)
 
 pub place_under-result-requires-clause-dir : goal.place_under-result-requires-clause-dir
 place_under-result-requires-clause-dir g c = rw c.kept_or_entered.ensures.told c.in_ok-here.ensures.place

@@ -1,10 +1,11 @@
 use Rattle.vault_spec.specs.Making.{NewFile}
 use Rattle.vault_write.specs.Calls.{New}
+use Rattle.vault_write.proofs.Exits.{place_drew}
 use Rattle.vault_write.proofs.FileMade.{file_refused, placed_at}
 use Rattle.vault_write.proofs.file.place_over.Goals as goal
 
 pub returns-in_err-is_free-clause-made : goal.returns-in_err-is_free-clause-made
-returns-in_err-is_free-clause-made g c = file_refused New c.in_err-is_free.field-0.0 c.from_residual.ensures.1 c.is_free.ensures.told (λ content. c.requires.slot.taken (NewFile content) c.in_err-is_free.field-0.0 c.in_err-is_free.ensures.taken c.args.work.now)
+returns-in_err-is_free-clause-made g c = file_refused New c.in_err-is_free.field-0.0 c.from_residual.ensures.1 (place_drew c.in_err-is_free.field-0.0 c.in_err-is_free.ensures.kind) c.is_free.ensures.told (λ content. c.requires.slot.taken (NewFile content) c.in_err-is_free.field-0.0 c.in_err-is_free.ensures.taken c.args.work.now)
 
 pub place_in-requires-clause-may : goal.place_in-requires-clause-may
 place_in-requires-clause-may g c = rw c.is_free.ensures.told c.requires.may

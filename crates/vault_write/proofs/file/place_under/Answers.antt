@@ -1,10 +1,11 @@
 use Rattle.vault_spec.specs.Making.{NewFile}
 use Rattle.vault_write.specs.Calls.{New}
+use Rattle.vault_write.proofs.Exits.{place_drew}
 use Rattle.vault_write.proofs.FileMade.{file_refused, placed_at}
 use Rattle.vault_write.proofs.file.place_under.Goals as goal
 
 pub returns-in_err-slot-clause-made : goal.returns-in_err-slot-clause-made
-returns-in_err-slot-clause-made g c = file_refused New c.in_err-slot.field-0.0 c.from_residual.ensures.1 c.slot_at.ensures.told (λ content. c.in_err-slot.ensures.refused (NewFile content) c.args.work.now)
+returns-in_err-slot-clause-made g c = file_refused New c.in_err-slot.field-0.0 c.from_residual.ensures.1 (place_drew c.in_err-slot.field-0.0 c.in_err-slot.ensures.kind) c.slot_at.ensures.told (λ content. c.in_err-slot.ensures.refused (NewFile content) c.args.work.now)
 
 pub place_in-requires-clause-may : goal.place_in-requires-clause-may
 place_in-requires-clause-may g c = rw c.slot_at.ensures.told c.requires.may

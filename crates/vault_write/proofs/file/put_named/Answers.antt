@@ -5,18 +5,20 @@ use Rattle.vault_spec.specs.Standing.{standing}
 use Rattle.vault_spec.specs.Vault.{format_of}
 use Rattle.vault_write.specs.Calls.{InPlace}
 use Rattle.vault_write.specs.Filing.{IsAtDirectory, StandsAs}
+use Rattle.vault_write.proofs.Counted.{directory_is_place_fault}
+use Rattle.vault_write.proofs.Exits.{place_drew}
 use Rattle.vault_write.proofs.FileMade.{file_refused, placed_at}
 use Rattle.vault_write.proofs.PutMade.{directory_refused, over_refused, put_new, stands_then}
 use Rattle.vault_write.proofs.file.put_named.Goals as goal
 
 pub returns-in_err-slot-clause-made : goal.returns-in_err-slot-clause-made
 returns-in_err-slot-clause-made g c =
-    file_refused InPlace c.in_err-slot.field-0.0 c.from_residual.ensures.1 c.slot_over.ensures.told
+    file_refused InPlace c.in_err-slot.field-0.0 c.from_residual.ensures.1 (place_drew c.in_err-slot.field-0.0 c.in_err-slot.ensures.kind) c.slot_over.ensures.told
     (λ content. over_refused c.what_is_found_stands.ensures.enters c.args.vault.now c.args.work.now c.args.front.now c.args.name.now content (g.F.Folder.told c.args.folder.now) c.in_err-slot.field-0.0 (c.in_err-slot.ensures.refused (NewFile content)) c.in_err-slot.ensures.over)
 
 pub returns-in_err-at-clause-made : goal.returns-in_err-at-clause-made
 returns-in_err-at-clause-made g c =
-    file_refused InPlace c.in_err-at.field-0.0 c.from_residual-in_err-at.ensures.1 (c.standing_file.ensures.told ∙ c.slot_over.ensures.told)
+    file_refused InPlace c.in_err-at.field-0.0 c.from_residual-in_err-at.ensures.1 (place_drew c.in_err-at.field-0.0 (directory_is_place_fault c.args.vault.now c.args.path.now (g.F.Folder.told c.slot_over.new.folder) c.in_err-at.field-0.0 c.in_err-at.ensures.fault)) (c.standing_file.ensures.told ∙ c.slot_over.ensures.told)
     (λ content. directory_refused c.args.vault.now c.args.work.now c.args.path.now c.args.front.now c.args.name.now content (g.F.Folder.told c.args.folder.now) c.in_err-at.field-0.0 c.requires.path c.in_ok-slot.ensures.slot.allowed
     (subst (λ o. IsAtDirectory c.args.vault.now c.args.path.now o c.in_err-at.field-0.0) c.slot_over.ensures.told c.in_err-at.ensures.fault))
 

@@ -13,7 +13,7 @@ use Rattle.vault_write.proofs.file.replace.Goals as goal
 
 pub returns-in_err-buffers-clause-made : goal.returns-in_err-buffers-clause-made
 returns-in_err-buffers-clause-made g c =
-    file_refused InPlace puts.NoMemory c.from_residual.ensures.1 refl (λ content ending v is. put_anyway (placing c.args.vault.now c.args.work.now c.args.front.now c.args.name.now (NewFile content)) ending (under c.args.vault.now.root v) (Err puts.NoMemory) tt tt tt)
+    file_refused InPlace puts.NoMemory c.from_residual.ensures.1 (λ same. cc same) refl (λ content ending v is. put_anyway (placing c.args.vault.now c.args.work.now c.args.front.now c.args.name.now (NewFile content)) ending (under c.args.vault.now.root v) (Err puts.NoMemory) tt tt tt)
 
 pub replace_entry-requires-clause-may : goal.replace_entry-requires-clause-may
 replace_entry-requires-clause-may g c =

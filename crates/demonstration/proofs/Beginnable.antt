@@ -51,7 +51,7 @@ pub record StopsAt (from to work : Path) (fault : MoveFault) (f f' r r' : ℕ) (
   pub blamed : Blamed is_of_begin (CountRose f f') (CountRose r r') fault
   pub completes : (g : Migration) → IfSeen t (λ v. IsAsked g Same from to work → AreOpenedBy g phrase phrase v → CanBegin g v → IsOfChance fault)
   pub too_long : IsOfLimit (PassesInTree Same from to phrase phrase t t') fault
-  pub written : IfSeen t (λ v. MayWriteTree {T = Done} (Err fault) Same from to phrase phrase s s' t t')
+  pub written : IfSeen t (λ v. MayWriteTree {T = Done} (Err fault) Same from to work phrase phrase s s' t t')
   pub shared : IsOfTaken (SharesInTree Same from to phrase phrase s s' t t') fault
   pub moves : MovesOnly work to t t'
 
@@ -106,8 +106,8 @@ module _ (alike : AreAlike) (one : HaveOneAnswer) (laws : AreMovable) (plans : P
   begun_ends count t t' status sound stops ends = ends_more (chances_by fault) (chances f f' r r' s s' t t' count (Sees (CanCarry leg) count t)) (record {
     folder = stops.blamed.failed;
     random = stops.blamed.drawn;
-    zeros = λ sees is. moving_zeros (source_of leg) (target_of leg) phrase phrase s s' t t' sees.view sees.seen
-        (subst (λ why. MayWriteTree {T = Done} (Err why) Same (source_of leg) (target_of leg) phrase phrase s s' t t') is (stops.written sees.view sees.seen));
+    zeros = λ sees is. moving_zeros (source_of leg) (target_of leg) moving_folder phrase phrase s s' t t' sees.view sees.seen
+        (subst (λ why. MayWriteTree {T = Done} (Err why) Same (source_of leg) (target_of leg) moving_folder phrase phrase s s' t t') is (stops.written sees.view sees.seen));
     shared = λ sees taken. (
       target_of leg,
       leg_shares one plans walks leg count s s' t t'

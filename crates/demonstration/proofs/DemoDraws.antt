@@ -55,16 +55,16 @@ module _ (from to : OpenedVault) (t t' : Option Told) (v : View) where
   made_zeros (item ∷ next ∷ items) (x ∷ made) were = run_behind x.drawn (slices made) (made_zeros (next ∷ items) made were.1)
 
 -- whatever it comes to, it draws some
-pub moving_drew : (result : Result Done MoveFault) (from to : Path) (pass pass' : List ℕ) (s s' : Option ByteStream) (t t' : Option Told) → MayWriteTree result Same from to pass pass' s s' t t' → Drew ⊥ s s'
-moving_drew result from to pass pass' s s' t t' (inl none) = record { drawn = []; were_drawn = none.undrawn; run = λ no. absurd no }
-moving_drew (Ok done) from to pass pass' s s' t t' (inr some) = record { drawn = slices some.writes.writes.made; were_drawn = some.writes.writes.writes.drawn; run = λ no. absurd no }
-moving_drew (Err fault) from to pass pass' s s' t t' (inr some) = record { drawn = slices some.writes.writes.made; were_drawn = some.writes.writes.writes.drawn; run = λ no. absurd no }
+pub moving_drew : (result : Result Done MoveFault) (from to work : Path) (pass pass' : List ℕ) (s s' : Option ByteStream) (t t' : Option Told) → MayWriteTree result Same from to work pass pass' s s' t t' → Drew ⊥ s s'
+moving_drew result from to work pass pass' s s' t t' (inl none) = record { drawn = []; were_drawn = none.undrawn; run = λ no. absurd no }
+moving_drew (Ok done) from to work pass pass' s s' t t' (inr some) = record { drawn = slices some.writes.writes.made; were_drawn = some.writes.writes.writes.drawn; run = λ no. absurd no }
+moving_drew (Err fault) from to work pass pass' s s' t t' (inr some) = record { drawn = slices some.writes.writes.made; were_drawn = some.writes.writes.writes.drawn; run = λ no. absurd no }
 
 -- and zeros, where it stops because of them
-pub moving_zeros : (from to : Path) (pass pass' : List ℕ) (s s' : Option ByteStream) (t t' : Option Told) (v : View) → IsSeen t v
-    → MayWriteTree {T = Done} (Err (Place put.ZeroRandom)) Same from to pass pass' s s' t t' → Drew (Unit {0}) s s'
-moving_zeros from to pass pass' s s' t t' v seen (inl none) = absurd none.refused
-moving_zeros from to pass pass' s s' t t' v seen (inr some) = record {
+pub moving_zeros : (from to work : Path) (pass pass' : List ℕ) (s s' : Option ByteStream) (t t' : Option Told) (v : View) → IsSeen t v
+    → MayWriteTree {T = Done} (Err (Place put.ZeroRandom)) Same from to work pass pass' s s' t t' → Drew (Unit {0}) s s'
+moving_zeros from to work pass pass' s s' t t' v seen (inl none) = absurd none.refused
+moving_zeros from to work pass pass' s s' t t' v seen (inr some) = record {
   drawn = slices some.writes.writes.made;
   were_drawn = some.writes.writes.writes.drawn;
   run = λ _. made_zeros _ _ t t' v some.writes.writes.first some.writes.writes.made (some.writes.writes.writes.answered v seen);

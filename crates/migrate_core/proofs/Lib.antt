@@ -22,9 +22,12 @@ mod SameItems
 mod Searched
 mod Settled
 mod Sharing
+mod SourcePlaces
 mod Started
 mod Stopping
 mod Tested
 mod Within
 mod WorkFolders
 mod Writings
+mod WrittenItems
+mod WrittenTrees

@@ -22,7 +22,8 @@ use Rattle.migrate_core.proofs.Limits.{good_copies}
 use Rattle.migrate_core.proofs.Movings.{mapped_walk, moves_to, source_stays, turned_over}
 use Rattle.migrate_core.proofs.Stopping.{if_stops_before, seen_stops}
 use Rattle.migrate_core.proofs.WorkFolders.{begun_moves}
-use Rattle.migrate_core.proofs.Writings.{Kept, kept_by, lacked_is, source_beside_at}
+use Rattle.migrate_core.proofs.Writings.{Kept}
+use Rattle.migrate_core.proofs.SourcePlaces.{kept_by, lacked_is, source_beside_at}
 use Rattle.migrate_core.specs.Causes.{Answer, Moves, StopsSeen, Unless}
 use Rattle.migrate_core.specs.Copying.{CopiesAll, HasCopied, HaveOwnFolders, MayBegin, StayGood}
 use Rattle.migrate_core.specs.Moving.{MovesOnly}

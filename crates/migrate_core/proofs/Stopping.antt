@@ -34,7 +34,8 @@ use Rattle.content_writing.specs.Making.{Placing}
 use Rattle.vault_write.specs.Refusing.{Answers, TakesRoot}
 use Rattle.migrate_core.proofs.Causing.{stop_more}
 use Rattle.migrate_core.proofs.Planned.{FilesFit}
-use Rattle.migrate_core.proofs.Writings.{Kept, ToldContent, content_told}
+use Rattle.migrate_core.proofs.Writings.{Kept}
+use Rattle.migrate_core.proofs.WrittenItems.{ToldContent, content_told}
 use Rattle.migrate_core.specs.Causes.{Answer, EndsSo, IsStop, StopsAt, StopsLater, StopsSeen, nothing_stops}
 use Rattle.migrate_core.specs.Copying.{Enters}
 use Rattle.migrate_core.specs.Sides.{AllowsLast, IsItemOf}

@@ -1,7 +1,7 @@
 -- What making a work folder ready and writing a journal move; and what stays in the work folder.
 use Rattle.std.specs.Cmp.Lexicographic.{bytes_decides}
 use Rattle.std.specs.Str.{bytes_eq}
-use Rattle.std.proofs.Common.{◌≡◌, ◌≢◌, Bool, true, false, not, ℕ, List, ◌++◌, ◌∷◌, [], Option, Some, None, refl, sym, ap, ◌∙◌, subst, inl, inr, append-nil, append_assoc, codes, IsTrue, is_none}
+use Rattle.std.proofs.Common.{◌≡◌, ◌≢◌, Bool, true, false, not, ℕ, List, ◌++◌, ◌∷◌, [], Ok, Option, Some, None, refl, sym, ap, ◌∙◌, subst, inl, inr, append-nil, append_assoc, codes, IsTrue, is_none}
 use Rattle.folder_spec.specs.Path.{Part, Path, below, child}
 use Rattle.folder_spec.specs.State.{Node, State}
 use Rattle.folder_spec.specs.Event.{Call, MakeDir, Create, Append, Sync, Settle, Rename, RemoveFile, RemoveDir, Told, FromTo}
@@ -22,7 +22,7 @@ use Rattle.migration_spec.proofs.Kept.{behind_none, entry_inside, staged_in, bes
 use Rattle.work_folder.specs.Apart.{AreApart}
 use Rattle.content_writing.specs.Making.{is_apart, is_inside, is_staged}
 use Rattle.work_folder.specs.Changing.{ChangesAt, ChangesOnly, IsChangingAt}
-use Rattle.work_folder.specs.Entering.{IsReady, IsFresh, IsLeftOver, IsWorkOrStage}
+use Rattle.work_folder.specs.Entering.{Empties, EntersAs, IsReady, IsFresh, IsLeftOver, IsWorkOrStage}
 use Rattle.work_folder.specs.Entries.{journal_path, stage_path}
 use Rattle.migrate_core.proofs.Movings.{apart_of, moves_within, moves_on}
 use Rattle.migrate_core.specs.Moved.{IsTidyWork, StaysTidyWork}
@@ -288,3 +288,8 @@ fresh_tidy v work fresh = record { ready = fresh.ready; alone = λ name stage jo
 -- calls that change nothing
 pub tidy_unchanged : (work : Path) (t u : Option Told) → u ≡ t → StaysTidyWork work t u
 tidy_unchanged work t u same = subst (StaysTidyWork work t) (sym same) (λ was. was)
+
+-- it was entered by emptying its stage
+pub entered_empties : (v : View) (work : Path) → EntersAs v work (Ok tt) → Empties v work (Ok tt)
+entered_empties v work (inl refused) = absurd (refused.1 refl)
+entered_empties v work (inr passed) = passed.1

@@ -17,7 +17,7 @@ use Rattle.plain_tree.specs.declared.name_map.NameMap.{NameMap}
 use Rattle.plain_tree.specs.declared.NodeKind.TheVariants.{File}
 use Rattle.tree_match.specs.Comparing.{content_at}
 use Rattle.migration_sides.specs.Causes.{Opens, TestsApart, WalksBoth}
-use Rattle.migration_sides.specs.Tests.{PassesOr, Then, UnlessBy, own}
+use Rattle.migration_sides.specs.Tests.{PassesOr, Then, UnlessBy, all_pass, own}
 use Rattle.migration_spec.specs.Guard.{old_path}
 use Rattle.mapped_trees.specs.Trees.{AllowsMapped}
 use Rattle.tree_match.specs.Mapping.{MapsTo}
@@ -164,12 +164,13 @@ IsOfMoving Is P (Err fault) = IsStop Is P fault
 abbrev pub Moves : {Y : Type 0} → (work.Answer → Type 0) → OpenedVault → OpenedVault → View → List Planned → Answer Y → Type 0
 Moves readies from to v items = Then of_work readies (λ _. IsOfMoving (HaveOwnFolders from to v) (StopsAt (HaveOwnFolders from to v) from v items))
 
--- `begin` between two opened vaults: both are clean, the target is empty and allows each mapped name, and no two items come to one path
+-- the tests of `begin` of two opened vaults: both are clean, the target is empty and allows each mapped name, and no two items come to
+-- one path
+abbrev pub TestsToBegin : {Y : Type 0} → NameMap → OpenedVault → OpenedVault → View → (List Planned → Answer Y → Type 0) → Answer Y → Type 0
+TestsToBegin rule from to v next = WalksBoth of_step from to v (λ items there. Then own (TestsEmpty there) (λ _. TestsMapped rule (format_of to.vault) items next))
+
 abbrev pub BeginsWith : {Y : Type 0} → NameMap → OpenedVault → OpenedVault → Path → View → Answer Y → Type 0
-BeginsWith rule from to work v =
-    WalksBoth of_step from to v (λ items there.
-    Then own (TestsEmpty there) (λ _.
-    TestsMapped rule (format_of to.vault) items (λ mapped. Moves (EntersAs v work) from to v mapped)))
+BeginsWith rule from to work v = TestsToBegin rule from to v (λ mapped. Moves (EntersAs v work) from to v mapped)
 
 -- behind the test that the folders don't overlap: the work folder can be made ready, and both vaults open
 abbrev pub BeginsApart : {Y : Type 0} → NameMap → (from to work : Path) (from_pass to_pass : List ℕ) → View → Answer Y → Type 0
@@ -180,6 +181,12 @@ BeginsApart rule from to work from_pass to_pass v =
 abbrev pub Begins : {Y : Type 0} → NameMap → (from to work : Path) (from_pass to_pass : List ℕ) → View → Answer Y → Type 0
 Begins rule from to work from_pass to_pass v = Then of_step (TestsApart from to work) (λ _. BeginsApart rule from to work from_pass to_pass v)
 
+-- all of these tests pass
+pub record PassesBegin (rule : NameMap) (from to work : Path) (from_pass to_pass : List ℕ) (v : View) : Type 0 where
+  pub apart : TestsApart from to work (Ok tt)
+  pub folder : Tests v work (Ok tt)
+  pub vaults : Opens of_step v from to from_pass to_pass (λ source target. TestsToBegin rule source target v all_pass) (Ok tt)
+
 -- the tests of the items that the walks gave: the source has those of the journal, the target allows each mapped name, no two items come
 -- to one path, and each item of the target is so among the mapped ones
 abbrev pub TestsItems : {Y : Type 0} → OpenedVault → OpenedVault → Journal → View → List Planned → List Planned → (List Planned → Answer Y → Type 0) → Answer Y → Type 0
@@ -187,9 +194,12 @@ TestsItems from to journal v items there next =
     Then own (TestsTold journal items) (λ _.
     TestsMapped journal.names (format_of to.vault) items (λ mapped. TestsMatch to there from mapped v (next mapped)))
 
--- `resume` between two opened vaults: both are clean
+-- those of `resume` of two opened vaults: both are clean
+abbrev pub TestsToResume : {Y : Type 0} → OpenedVault → OpenedVault → Journal → View → (List Planned → Answer Y → Type 0) → Answer Y → Type 0
+TestsToResume from to journal v next = WalksBoth of_step from to v (λ items there. TestsItems from to journal v items there next)
+
 abbrev pub ResumesWith : {Y : Type 0} → OpenedVault → OpenedVault → Path → Journal → View → Answer Y → Type 0
-ResumesWith from to work journal v = WalksBoth of_step from to v (λ items there. TestsItems from to journal v items there (λ mapped. Moves (Empties v work) from to v mapped))
+ResumesWith from to work journal v = TestsToResume from to journal v (λ mapped. Moves (Empties v work) from to v mapped)
 
 -- behind the tests of the work folder: the source is there still, and both vaults open
 abbrev pub ResumesTold : {Y : Type 0} → Path → (from_pass to_pass : List ℕ) → View → Journal → Answer Y → Type 0
@@ -207,6 +217,18 @@ Resumes work from_pass to_pass v =
     Then of_journal (ReadsAs (journal_bytes v work)) (λ journal.
     Then of_step (TestsApart journal.source journal.target work) (λ _.
     Then of_work (TestsEntries (is_done journal.phase) v work) (λ _. ResumesTold work from_pass to_pass v journal)))
+
+-- all of these tests pass, and those behind the tests of the work folder
+pub record PassesTold (work : Path) (from_pass to_pass : List ℕ) (journal : Journal) (v : View) : Type 0 where
+  pub source : TestsSource journal.phase work journal.source v (Ok tt)
+  pub vaults : Opens of_step v journal.source journal.target from_pass to_pass (λ source target. TestsToResume source target journal v all_pass) (Ok tt)
+
+pub record PassesResume (work : Path) (from_pass to_pass : List ℕ) (v : View) : Type 0 where
+  pub journal : Journal
+  pub reads : ReadsAs (journal_bytes v work) (Ok journal)
+  pub apart : TestsApart journal.source journal.target work (Ok tt)
+  pub entries : TestsEntries (is_done journal.phase) v work (Ok tt)
+  pub told : PassesTold work from_pass to_pass journal v
 
 -- ---- refusals of a part (private contracts only)
 

@@ -1,5 +1,5 @@
 -- What a migration writes: the bytes that it draws, item by item, and the files that it makes.
-use Rattle.std.specs.Prelude.{◌≡◌, ◌⊎◌, ◌≤◌, ◌<◌, ℕ, not, List, [], ◌∷◌, ◌++◌, length, map, Contains, None, Option, Result, Ok, Err, IfErr}
+use Rattle.std.specs.Prelude.{◌≡◌, ◌⊎◌, ◌≤◌, ◌<◌, ℕ, not, List, [], ◌∷◌, ◌++◌, length, map, Contains, None, Option, Result, Ok, Err}
 use Rattle.std.specs.List.{concat, filter}
 use Rattle.folder_spec.specs.Edit.{edits_under}
 use Rattle.folder_spec.specs.Event.{Append, Call, Create, MakeDir, RemoveDir, RemoveFile, Rename, Settle, Sync, Told, FromTo}
@@ -18,6 +18,7 @@ use Rattle.plain_tree.specs.declared.name_map.NameMap.{NameMap}
 use Rattle.port_model.specs.Draws.{ByteStream, Draws}
 use Rattle.tree_match.specs.Comparing.{content_at}
 use Rattle.vault_spec.specs.Opened.{OpenedVault}
+use Rattle.vault_spec.specs.Find.{enter}
 use Rattle.vault_spec.specs.Format.{Directory}
 use Rattle.vault_spec.specs.Making.{NewItem, NewDirectory, NewFile, draws, edits, files}
 use Rattle.vault_spec.specs.Plan.{Planned}
@@ -29,7 +30,8 @@ use Rattle.vault_contents.specs.Coming.{ending_of}
 use Rattle.content_writing.specs.declared.fault.PutFault.{PutFault}
 use Rattle.content_writing.specs.declared.fault.PutFault.TheVariants as put
 use Rattle.migrate_core.specs.declared.fault.MoveFault.{MoveFault}
-use Rattle.migrate_core.specs.declared.fault.MoveFault.TheVariants.{Work, Journal as Unread, Overlap, Load, NotEmpty, NotAllowed, Meet, Changed, Place, SourceGone}
+use Rattle.migrate_core.specs.declared.fault.MoveFault.TheVariants.{Place}
+use Rattle.work_folder.specs.Entering.{Empties}
 use Rattle.migration_sides.specs.Causes.{AreItemsOf}
 use Rattle.migration_sides.specs.Sides.{opened_in}
 use Rattle.migration_sides.specs.Unchanged.{ChangesNothing}
@@ -61,34 +63,39 @@ AreCopies from v (item ∷ items) [] = ⊥
 abbrev pub slices : List MadeItem → List ℕ
 slices made = concat (map (λ (x : MadeItem). x.drawn) made)
 
--- one of the item's files under its slice, in a directory of the target
-pub record IsFileOf (to : OpenedVault) (x : MadeItem) (file : List ℕ) : Type 0 where
-  pub front : plain.Path
-  pub name : List ℕ
-  pub dir : Directory
-  pub is : x.path ≡ front ++ name ∷ []
-  pub among : Contains (files (format_of to.vault) dir name x.item x.drawn) file
-
--- a place of the item in the target: what an edit that makes it brings comes there, as the vault showed the directory
-pub record IsPlaceOf (to : OpenedVault) (x : MadeItem) (at : Path) : Type 0 where
-  pub front : plain.Path
-  pub name : List ℕ
-  pub dir : Directory
-  pub view : View
-  pub is : x.path ≡ front ++ name ∷ []
-  pub place : IsPlace (edits_under to.root (edits (format_of to.vault) view dir name x.item x.drawn)) at
-
--- a place of one of these items
-abbrev pub IsMadePlace : OpenedVault → List MadeItem → Path → Type 0
-IsMadePlace to made at = (x : MadeItem) × Contains made x × IsPlaceOf to x at
-
 -- a call, or a part of it
 abbrev pub HasGone : Told → Told → Type 0
 HasGone = Went (λ s. Unit {0}) (λ s e. Unit {0})
 
+-- this was seen at a moment of a call
+abbrev pub WasSeen : Option Told → Option Told → View → Type 0
+WasSeen told told' v = FromTo (λ a b. (c : Told) × HasGone a c × HasGone c b × (v ≡ seen c.state)) told told'
+
+-- the directory of the target that has the item, as the target showed it at such a moment
+pub record IsMadeIn (to : OpenedVault) (Shown : View → Type 0) (x : MadeItem) : Type 0 where
+  pub front : plain.Path
+  pub name : List ℕ
+  pub is : x.path ≡ front ++ name ∷ []
+  pub moment : View
+  pub shown : Shown moment
+  pub dir : Directory
+  pub entered : enter (format_of to.vault) (under to.root moment) front ≡ Ok dir
+
+-- one of the item's files in its directory, under its slice
+abbrev pub IsFileOf : OpenedVault → (View → Type 0) → MadeItem → List ℕ → Type 0
+IsFileOf to Shown x file = (m : IsMadeIn to Shown x) × Contains (files (format_of to.vault) m.dir m.name x.item x.drawn) file
+
+-- a place of the item in the target: what an edit that makes it in its directory brings comes there
+abbrev pub IsPlaceOf : OpenedVault → (View → Type 0) → MadeItem → Path → Type 0
+IsPlaceOf to Shown x at = (m : IsMadeIn to Shown x) × IsPlace (edits_under to.root (edits (format_of to.vault) (under to.root m.moment) m.dir m.name x.item x.drawn)) at
+
+-- a place of one of these items
+abbrev pub IsMadePlace : OpenedVault → (View → Type 0) → List MadeItem → Path → Type 0
+IsMadePlace to Shown made at = (x : MadeItem) × Contains made x × IsPlaceOf to Shown x at
+
 -- one of these texts, or of the files of these items
-abbrev pub IsOneOf : OpenedVault → List MadeItem → List (List ℕ) → List ℕ → Type 0
-IsOneOf to made texts file = Contains texts file ⊎ ((x : MadeItem) × Contains made x × IsFileOf to x file)
+abbrev pub IsOneOf : OpenedVault → (View → Type 0) → List MadeItem → List (List ℕ) → List ℕ → Type 0
+IsOneOf to Shown made texts file = Contains texts file ⊎ ((x : MadeItem) × Contains made x × IsFileOf to Shown x file)
 
 -- Since s0 no file of then was written, and each that was made holds a front part of one of these.
 pub record HoldsOnly (P : List ℕ → Type 0) (s0 s : State) : Type 0 where
@@ -116,10 +123,6 @@ abbrev pub WritesBeside : Path → (List ℕ → Type 0) → Option Told → Opt
 WritesBeside root P = WritesOnly (BringsOnlyTo root (λ at. ⊥)) P
 
 -- ---- what placing each of them came to
-
--- this was seen at a moment of a call
-abbrev pub WasSeen : Option Told → Option Told → View → Type 0
-WasSeen told told' v = FromTo (λ a b. (c : Told) × HasGone a c × HasGone c b × (v ≡ seen c.state)) told told'
 
 abbrev pub ending_by : NodeKind → Ending → Ending
 ending_by Dir ending = Whole
@@ -168,7 +171,7 @@ pub record Writes (answer : Result (Unit {0}) MoveFault) (from to : OpenedVault)
   pub drawn : Draws stream stream' (slices made)
   pub copies : IfSeen told (λ v. AreCopies from v items made)
   pub answered : IfSeen told (λ v. WereAnswered from to told told' v items made answer)
-  pub files : WritesOnly (BringsOnlyTo to.root (IsMadePlace to made)) (IsOneOf to made texts) told told'
+  pub files : WritesOnly (BringsOnlyTo to.root (IsMadePlace to (WasSeen told told') made)) (IsOneOf to (WasSeen told told') made texts) told told'
 
 -- all of these items
 pub record WritesAll (from to : OpenedVault) (items : List Planned) (texts : List (List ℕ)) (stream stream' : Option ByteStream) (told told' : Option Told) : Type 0 where
@@ -196,33 +199,16 @@ abbrev pub WritesBy : {T : Type 0} → Result T MoveFault → OpenedVault → Op
 WritesBy (Ok value) = WritesAll
 WritesBy (Err fault) = WritesFirst fault
 
--- what may be answered once the tests have passed
-abbrev pub IsOfPlacing : MoveFault → Type 0
-IsOfPlacing (Unread fault) = ⊥
-IsOfPlacing (Overlap p q) = ⊥
-IsOfPlacing (Load side fault) = ⊥
-IsOfPlacing (NotEmpty at) = ⊥
-IsOfPlacing (NotAllowed path) = ⊥
-IsOfPlacing (Meet one other) = ⊥
-IsOfPlacing (Changed plan items plan' items') = ⊥
-IsOfPlacing SourceGone = ⊥
-IsOfPlacing fault = Unit {0}
-
--- where the work folder isn't made ready, nothing has come to the root
-abbrev pub LeavesRoot : Path → Option Told → Option Told → MoveFault → Type 0
-LeavesRoot root told told' (Work fault) = WritesBeside root (λ file. ⊥) told told'
-LeavesRoot root told told' fault = Unit {0}
-
--- between two opened vaults, the items of the source, at their mapped paths, that the target lacks
-pub record WritesLacked {T : Type 0} (result : Result T MoveFault) (names : NameMap) (from to : OpenedVault) (stream stream' : Option ByteStream) (told told' : Option Told) : Type 0 where
+-- Between two opened vaults, the items of the source, at their mapped paths, that the target lacks. Nothing comes to the target unless the
+-- stage can be made ready.
+pub record WritesLacked {T : Type 0} (result : Result T MoveFault) (names : NameMap) (from to : OpenedVault) (work : Path) (stream stream' : Option ByteStream) (told told' : Option Told) : Type 0 where
   pub items : List Planned
   pub mapped : List Planned
   pub there : List Planned
   pub items_are : IfSeen told (λ v. AreItemsOf from v items)
   pub mapped_are : IsMappedPlan names items mapped
   pub there_are : IfSeen told (λ v. AreItemsOf to v there)
-  pub passed : IfSeen told (λ v. IfErr result IsOfPlacing)
-  pub unready : IfSeen told (λ v. IfErr result (LeavesRoot to.root told told'))
+  pub unready : WritesBeside to.root (λ file. ⊥) told told' ⊎ IfSeen told (λ v. Empties v work (Ok tt))
   pub writes : WritesBy result from to (lacked there mapped) (journal_texts names from.root to.root items) stream stream' told told'
 
 -- a test refuses
@@ -237,26 +223,26 @@ pub record WritesNothing {T : Type 0} (result : Result T MoveFault) (stream stre
   pub still : ChangesNothing told told'
 
 -- where a test refuses nothing is changed
-abbrev pub MayWrite : {T : Type 0} → Result T MoveFault → NameMap → OpenedVault → OpenedVault → Option ByteStream → Option ByteStream → Option Told → Option Told → Type 0
-MayWrite result names from to stream stream' told told' = WritesNothing result stream stream' told told' ⊎ WritesLacked result names from to stream stream' told told'
+abbrev pub MayWrite : {T : Type 0} → Result T MoveFault → NameMap → OpenedVault → OpenedVault → Path → Option ByteStream → Option ByteStream → Option Told → Option Told → Type 0
+MayWrite result names from to work stream stream' told told' = WritesNothing result stream stream' told told' ⊎ WritesLacked result names from to work stream stream' told told'
 
 -- of the vaults that two roots and their passphrases are
-pub record WritesTree {T : Type 0} (result : Result T MoveFault) (names : NameMap) (from to : Path) (from_pass to_pass : List ℕ) (stream stream' : Option ByteStream) (told told' : Option Told) : Type 0 where
+pub record WritesTree {T : Type 0} (result : Result T MoveFault) (names : NameMap) (from to work : Path) (from_pass to_pass : List ℕ) (stream stream' : Option ByteStream) (told told' : Option Told) : Type 0 where
   pub source : Vault
   pub target : Vault
   pub opens_source : IfSeen told (λ v. IsVault (under from v) from_pass source)
   pub opens_target : IfSeen told (λ v. IsVault (under to v) to_pass target)
-  pub writes : WritesLacked result names (opened_in from source) (opened_in to target) stream stream' told told'
+  pub writes : WritesLacked result names (opened_in from source) (opened_in to target) work stream stream' told told'
 
-abbrev pub MayWriteTree : {T : Type 0} → Result T MoveFault → NameMap → (from to : Path) (from_pass to_pass : List ℕ) → Option ByteStream → Option ByteStream → Option Told → Option Told → Type 0
-MayWriteTree result names from to from_pass to_pass stream stream' told told' = WritesNothing result stream stream' told told' ⊎ WritesTree result names from to from_pass to_pass stream stream' told told'
+abbrev pub MayWriteTree : {T : Type 0} → Result T MoveFault → NameMap → (from to work : Path) (from_pass to_pass : List ℕ) → Option ByteStream → Option ByteStream → Option Told → Option Told → Type 0
+MayWriteTree result names from to work from_pass to_pass stream stream' told told' = WritesNothing result stream stream' told told' ⊎ WritesTree result names from to work from_pass to_pass stream stream' told told'
 
 -- of those that the journal tells which stands in the work folder
 pub record WritesTold {T : Type 0} (result : Result T MoveFault) (work : Path) (from_pass to_pass : List ℕ) (stream stream' : Option ByteStream) (told told' : Option Told) (v : View) : Type 0 where
   pub journal : Journal
   pub is : IsJournal journal
   pub stands : StandsIn work journal v
-  pub writes : WritesTree result journal.names journal.source journal.target from_pass to_pass stream stream' told told'
+  pub writes : WritesTree result journal.names journal.source journal.target work from_pass to_pass stream stream' told told'
 
 abbrev pub MayWriteTold : {T : Type 0} → Result T MoveFault → Path → (from_pass to_pass : List ℕ) → Option ByteStream → Option ByteStream → Option Told → Option Told → View → Type 0
 MayWriteTold result work from_pass to_pass stream stream' told told' v = WritesNothing result stream stream' told told' ⊎ WritesTold result work from_pass to_pass stream stream' told told' v

@@ -1,13 +1,13 @@
 //! Beginning a migration.
-ghost use Rattle.std.specs.Prelude.{◌≡◌, ◌≤◌, [], IfErr, IfOk, OnOk};
+ghost use Rattle.std.specs.Prelude.{◌≡◌, ◌⊎◌, ◌≤◌, [], IfErr, IfOk, Ok, OnOk};
 ghost use Rattle.port_model.specs.Counts.{CountRose};
 ghost use Rattle.folder_spec.specs.Seen.{IfSeen};
 ghost use Rattle.move_journal.specs.Journal.{IsParsed};
 ghost use Rattle.migration_spec.specs.Alone.{KeepsGuarded, Finished, Unbegun};
 ghost use Rattle.migration_spec.specs.Guard.{AreOpenedBy, Migration};
 ghost use Rattle.vault_spec.specs.Vault.{format_of};
-ghost use Rattle.work_folder.specs.Entering.{EntersAs};
-ghost use Rattle.migrate_core.specs.Causes.{Begins, BeginsApart, BeginsWith, Moves, TestsEmpty, Unless};
+ghost use Rattle.work_folder.specs.Entering.{Empties, EntersAs};
+ghost use Rattle.migrate_core.specs.Causes.{Begins, BeginsApart, BeginsWith, Moves, PassesBegin, TestsEmpty, TestsToBegin, Unless};
 ghost use Rattle.migrate_core.specs.Completing.{CanBegin, IsOfChance};
 ghost use Rattle.migrate_core.specs.Copying.{MayBegin, StayGood};
 ghost use Rattle.migrate_core.specs.Faults.{Blamed, IsOfTest, is_of_begin};
@@ -15,10 +15,12 @@ ghost use Rattle.migrate_core.specs.Leading.{KeepsSettled, LeadsEach};
 ghost use Rattle.migrate_core.specs.Limits.{StopsElsewhere, EndsBy, IsOfLimit, PassesInTree};
 ghost use Rattle.migrate_core.specs.Moved.{IsTidyWork, Moved, MovesTree, Placed, lacking};
 ghost use Rattle.migrate_core.specs.Moving.{MovesOnly};
-ghost use Rattle.migrate_core.specs.Written.{LeavesRoot, MayWrite, MayWriteTree, WritesBy, journal_texts, lacked};
+ghost use Rattle.migrate_core.specs.Written.{MayWrite, MayWriteTree, WritesBeside, WritesBy, journal_texts, lacked};
 ghost use Rattle.migrate_core.specs.Sharing.{IsFilled, IsOfTaken, SharesFrom, SharesInTree, SharesWhereTidy};
 ghost use Rattle.migrate_core.specs.Sides.{AllowsEach, AllowsEachMapped, AreItemsToMove, IsAsked};
 ghost use Rattle.migration_sides.specs.Sides.{AreSeparate};
+ghost use Rattle.migration_sides.specs.Tests.{all_pass};
+ghost use Rattle.migration_sides.specs.Unchanged.{ChangesNothing};
 
 use crate::fault::MoveFault;
 use crate::finishing::{Items, go_on};
@@ -68,7 +70,8 @@ pub fn begin<F: Folder, R: Randoms>(
     ensures random { R.faults random.old ≤ R.faults random.new }
     ensures blamed { IfErr result (Blamed is_of_begin (CountRose (F.faults folder.old) (F.faults folder.new)) (CountRose (R.faults random.old) (R.faults random.new))) }
     ensures cause { IfSeen (F.told folder.old) (λ v. Unless result (Begins names source.now target.now work.now source_pass.now target_pass.now v result)) }
-    ensures written { IfSeen (F.told folder.old) (λ v. MayWriteTree result names source.now target.now source_pass.now target_pass.now (R.left random.old) (R.left random.new) (F.told folder.old) (F.told folder.new)) }
+    ensures written { IfSeen (F.told folder.old) (λ v. MayWriteTree result names source.now target.now work.now source_pass.now target_pass.now (R.left random.old) (R.left random.new) (F.told folder.old) (F.told folder.new)) }
+    ensures tested { ChangesNothing (F.told folder.old) (F.told folder.new) ⊎ IfSeen (F.told folder.old) (λ v. PassesBegin names source.now target.now work.now source_pass.now target_pass.now v) }
     ensures completes { (g : Migration) → IfSeen (F.told folder.old) (λ v. IsAsked g names source.now target.now work.now → AreOpenedBy g source_pass.now target_pass.now v → CanBegin g v → IfErr result IsOfChance) }
     ensures too_long { IfErr result (IsOfLimit (PassesInTree names source.now target.now source_pass.now target_pass.now (F.told folder.old) (F.told folder.new))) }
     ensures shared { IfErr result (IsOfTaken (SharesInTree names source.now target.now source_pass.now target_pass.now (R.left random.old) (R.left random.new) (F.told folder.old) (F.told folder.new))) }
@@ -116,7 +119,8 @@ fn begin_settled<F: Folder, R: Randoms>(
     ensures cause { IfSeen (F.told folder.old) (λ v. Unless result (BeginsApart names source.now target.now work.now source_pass.now target_pass.now v result)) }
     ensures too_long { IfErr result (IsOfLimit (PassesInTree names source.now target.now source_pass.now target_pass.now (F.told folder.old) (F.told folder.new))) }
     ensures shared { IfErr result (IsOfTaken (SharesInTree names source.now target.now source_pass.now target_pass.now (R.left random.old) (R.left random.new) (F.told folder.old) (F.told folder.new))) }
-    ensures written { IfSeen (F.told folder.old) (λ v. MayWriteTree result names source.now target.now source_pass.now target_pass.now (R.left random.old) (R.left random.new) (F.told folder.old) (F.told folder.new)) }
+    ensures written { IfSeen (F.told folder.old) (λ v. MayWriteTree result names source.now target.now work.now source_pass.now target_pass.now (R.left random.old) (R.left random.new) (F.told folder.old) (F.told folder.new)) }
+    ensures tested { (F.told folder.new ≡ F.told folder.old) ⊎ IfSeen (F.told folder.old) (λ v. PassesBegin names source.now target.now work.now source_pass.now target_pass.now v) }
 {
     draws_compose();
     roots_have_one_answer();
@@ -155,7 +159,8 @@ fn begin_with<F: Folder, R: Randoms>(
     ensures blamed { IfErr result (Blamed is_of_begin (CountRose (F.faults folder.old) (F.faults folder.new)) (CountRose (R.faults random.old) (R.faults random.new))) }
     ensures cause { IfSeen (F.told folder.old) (λ v. Unless result (BeginsWith sides.now.names sides.now.source sides.now.target work.now v result)) }
     ensures ends { EndsBy (StayGood sides.now.source sides.now.target (F.told folder.old) (F.told folder.new)) (SharesWhereTidy sides.now.names sides.now.source sides.now.target (R.left random.old) (R.left random.new) (F.told folder.old) (F.told folder.new)) sides.now.names sides.now.source sides.now.target (F.told folder.new) result }
-    ensures written { MayWrite result sides.now.names sides.now.source sides.now.target (R.left random.old) (R.left random.new) (F.told folder.old) (F.told folder.new) }
+    ensures written { MayWrite result sides.now.names sides.now.source sides.now.target work.now (R.left random.old) (R.left random.new) (F.told folder.old) (F.told folder.new) }
+    ensures tested { (F.told folder.new ≡ F.told folder.old) ⊎ IfSeen (F.told folder.old) (λ v. TestsToBegin sides.now.names sides.now.source sides.now.target v all_pass (Ok tt)) }
 {
     draws_compose();
     walks_tell_the_tree();
@@ -210,7 +215,7 @@ fn move_all<F: Folder, R: Randoms>(
     ensures blamed { IfErr result (Blamed is_of_begin (CountRose (F.faults folder.old) (F.faults folder.new)) (CountRose (R.faults random.old) (R.faults random.new))) }
     ensures cause { IfSeen (F.told folder.old) (λ v. Unless result (Moves (EntersAs v work.now) sides.now.source sides.now.target v items.now.mapped.items result)) }
     ensures ends { EndsBy (StayGood sides.now.source sides.now.target (F.told folder.old) (F.told folder.new)) (SharesFrom (IsFilled sides.now.names sides.now.source sides.now.target []) sides.now.target items.now.mapped.items (R.left random.old) (R.left random.new) (F.told folder.old) (F.told folder.new)) sides.now.names sides.now.source sides.now.target (F.told folder.new) result }
-    ensures unready { IfSeen (F.told folder.old) (λ v. IfErr result (LeavesRoot sides.now.target.root (F.told folder.old) (F.told folder.new))) }
+    ensures unready { WritesBeside sides.now.target.root (λ file. ⊥) (F.told folder.old) (F.told folder.new) ⊎ IfSeen (F.told folder.old) (λ v. Empties v work.now (Ok tt)) }
     ensures written { WritesBy result sides.now.source sides.now.target (lacked [] items.now.mapped.items) (journal_texts sides.now.names sides.now.source.root sides.now.target.root items.now.own.items) (R.left random.old) (R.left random.new) (F.told folder.old) (F.told folder.new) }
 {
     draws_compose();

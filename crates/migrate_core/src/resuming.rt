@@ -9,7 +9,7 @@ ghost use Rattle.migration_spec.specs.Alone.{KeepsGuarded, Finished};
 ghost use Rattle.migration_spec.specs.Guard.{AreOpenedBy, Migration};
 ghost use Rattle.vault_spec.specs.Vault.{format_of};
 ghost use Rattle.work_folder.specs.Entering.{Empties};
-ghost use Rattle.migrate_core.specs.Causes.{Moves, Refuses, Resumes, ResumesTold, ResumesWith, TestsItems, TestsMatch, TestsSource, TestsTold, Unless, is_done, where_in};
+ghost use Rattle.migrate_core.specs.Causes.{Moves, PassesResume, PassesTold, Refuses, Resumes, ResumesTold, ResumesWith, TestsItems, TestsMatch, TestsSource, TestsToResume, TestsTold, Unless, is_done, where_in};
 ghost use Rattle.migrate_core.specs.Completing.{CanResume, IsOfChance};
 ghost use Rattle.migrate_core.specs.Copying.{MayBegin, StayGood};
 ghost use Rattle.migrate_core.specs.Faults.{Blamed, IsOfTest, is_of_resume};
@@ -17,10 +17,11 @@ ghost use Rattle.migrate_core.specs.Leading.{KeepsSettled, LeadsTold, progress_o
 ghost use Rattle.migrate_core.specs.Limits.{StopsElsewhere, EndsBy, IsOfLimit, PassesAsTold, PassesInTree, PassesSeen};
 ghost use Rattle.migrate_core.specs.Moved.{done_of, Moved, MovesTold, MovesTree, Placed, lacking};
 ghost use Rattle.migrate_core.specs.Moving.{MovesOnly};
-ghost use Rattle.migrate_core.specs.Written.{LeavesRoot, MayWrite, MayWriteTold, MayWriteTree, WritesBy, lacked};
+ghost use Rattle.migrate_core.specs.Written.{MayWrite, MayWriteTold, MayWriteTree, WritesBeside, WritesBy, lacked};
 ghost use Rattle.migrate_core.specs.Sides.{AllowsEach, AreItemsToMove, AreTold, IsInUse, IsMappedWalk};
 ghost use Rattle.migration_sides.specs.Sides.{AreSeparate, IsWalked};
-ghost use Rattle.migration_sides.specs.Tests.{nothing_follows};
+ghost use Rattle.migration_sides.specs.Tests.{all_pass, nothing_follows};
+ghost use Rattle.migration_sides.specs.Unchanged.{ChangesNothing};
 ghost use Rattle.tree_match.specs.Mapping.{IsMappedPlan};
 
 use crate::fault::MoveFault;
@@ -66,6 +67,7 @@ pub fn resume<F: Folder, R: Randoms>(
     ensures blamed { IfErr result (Blamed is_of_resume (CountRose (F.faults folder.old) (F.faults folder.new)) (CountRose (R.faults random.old) (R.faults random.new))) }
     ensures cause { IfSeen (F.told folder.old) (λ v. Unless result (Resumes work.now source_pass.now target_pass.now v result)) }
     ensures written { IfSeen (F.told folder.old) (λ v. MayWriteTold result work.now source_pass.now target_pass.now (R.left random.old) (R.left random.new) (F.told folder.old) (F.told folder.new) v) }
+    ensures tested { ChangesNothing (F.told folder.old) (F.told folder.new) ⊎ IfSeen (F.told folder.old) (λ v. PassesResume work.now source_pass.now target_pass.now v) }
     ensures completes { (g : Migration) → IfSeen (F.told folder.old) (λ v. g.work ≡ work.now → AreOpenedBy g source_pass.now target_pass.now v → CanResume g v → IfErr result IsOfChance) }
     ensures too_long { IfSeen (F.told folder.old) (λ v. IfErr result (IsOfLimit (PassesAsTold work.now source_pass.now target_pass.now (F.told folder.old) (F.told folder.new) v))) }
 {
@@ -95,6 +97,7 @@ fn resume_settled<F: Folder, R: Randoms>(
     ensures cause { IfSeen (F.told folder.old) (λ v. Unless result (Resumes work.now source_pass.now target_pass.now v result)) }
     ensures too_long { IfSeen (F.told folder.old) (λ v. IfErr result (IsOfLimit (PassesAsTold work.now source_pass.now target_pass.now (F.told folder.old) (F.told folder.new) v))) }
     ensures written { IfSeen (F.told folder.old) (λ v. MayWriteTold result work.now source_pass.now target_pass.now (R.left random.old) (R.left random.new) (F.told folder.old) (F.told folder.new) v) }
+    ensures tested { (F.told folder.new ≡ F.told folder.old) ⊎ IfSeen (F.told folder.old) (λ v. PassesResume work.now source_pass.now target_pass.now v) }
 {
     draws_compose();
     journals_are_read_back();
@@ -143,7 +146,8 @@ fn resume_told<F: Folder, R: Randoms>(
     ensures blamed { IfErr result (Blamed is_of_resume (CountRose (F.faults folder.old) (F.faults folder.new)) (CountRose (R.faults random.old) (R.faults random.new))) }
     ensures cause { IfSeen (F.told folder.old) (λ v. Unless result (ResumesTold work.now source_pass.now target_pass.now v journal result)) }
     ensures too_long { IfErr result (IsOfLimit (PassesInTree journal.names journal.source journal.target source_pass.now target_pass.now (F.told folder.old) (F.told folder.new))) }
-    ensures written { IfSeen (F.told folder.old) (λ v. MayWriteTree result journal.names journal.source journal.target source_pass.now target_pass.now (R.left random.old) (R.left random.new) (F.told folder.old) (F.told folder.new)) }
+    ensures written { IfSeen (F.told folder.old) (λ v. MayWriteTree result journal.names journal.source journal.target work.now source_pass.now target_pass.now (R.left random.old) (R.left random.new) (F.told folder.old) (F.told folder.new)) }
+    ensures tested { (F.told folder.new ≡ F.told folder.old) ⊎ IfSeen (F.told folder.old) (λ v. PassesTold work.now source_pass.now target_pass.now journal v) }
 {
     draws_compose();
     journals_are_read_back();
@@ -206,7 +210,8 @@ fn resume_with<F: Folder, R: Randoms>(
     ensures blamed { IfErr result (Blamed is_of_resume (CountRose (F.faults folder.old) (F.faults folder.new)) (CountRose (R.faults random.old) (R.faults random.new))) }
     ensures cause { IfSeen (F.told folder.old) (λ v. Unless result (ResumesWith sides.now.source sides.now.target work.now journal v result)) }
     ensures ends { EndsBy (StayGood sides.now.source sides.now.target (F.told folder.old) (F.told folder.new)) (Unit {0}) sides.now.names sides.now.source sides.now.target (F.told folder.new) result }
-    ensures written { IfSeen (F.told folder.old) (λ v. MayWrite result journal.names sides.now.source sides.now.target (R.left random.old) (R.left random.new) (F.told folder.old) (F.told folder.new)) }
+    ensures written { IfSeen (F.told folder.old) (λ v. MayWrite result journal.names sides.now.source sides.now.target work.now (R.left random.old) (R.left random.new) (F.told folder.old) (F.told folder.new)) }
+    ensures tested { (F.told folder.new ≡ F.told folder.old) ⊎ IfSeen (F.told folder.old) (λ v. TestsToResume sides.now.source sides.now.target journal v all_pass (Ok tt)) }
 {
     draws_compose();
     walks_tell_the_tree();
@@ -332,7 +337,7 @@ fn place_rest<F: Folder, R: Randoms>(
     ensures blamed { IfErr result (Blamed is_of_resume (CountRose (F.faults folder.old) (F.faults folder.new)) (CountRose (R.faults random.old) (R.faults random.new))) }
     ensures cause { IfSeen (F.told folder.old) (λ v. Unless result (Moves (Empties v work.now) sides.now.source sides.now.target v items.now.mapped.items result)) }
     ensures ends { EndsBy (StayGood sides.now.source sides.now.target (F.told folder.old) (F.told folder.new)) (Unit {0}) sides.now.names sides.now.source sides.now.target (F.told folder.new) result }
-    ensures unready { IfSeen (F.told folder.old) (λ v. IfErr result (LeavesRoot sides.now.target.root (F.told folder.old) (F.told folder.new))) }
+    ensures unready { WritesBeside sides.now.target.root (λ file. ⊥) (F.told folder.old) (F.told folder.new) ⊎ IfSeen (F.told folder.old) (λ v. Empties v work.now (Ok tt)) }
     ensures written { IfSeen (F.told folder.old) (λ v. WritesBy result sides.now.source sides.now.target (lacked target.now.items items.now.mapped.items) (journal_text (done_of journal) ∷ []) (R.left random.old) (R.left random.new) (F.told folder.old) (F.told folder.new)) }
 {
     draws_compose();

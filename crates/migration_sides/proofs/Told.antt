@@ -26,7 +26,7 @@ use Rattle.work_folder.specs.declared.fault.WorkFault.TheVariants as works
 use Rattle.migration_sides.proofs.Chains.{part_refused, passed_is, then_passes}
 use Rattle.migration_sides.specs.Causes.{Opens, Refuses, TestsApart, Unless, Walks, WalksBoth, of_refusal}
 use Rattle.migration_sides.specs.Faults.{of_walk}
-use Rattle.migration_sides.specs.Sides.{opened_in}
+use Rattle.migration_sides.specs.Sides.{AreSeparate, opened_in}
 use Rattle.migration_sides.specs.Tests.{Then, UnlessBy, nothing_follows, own}
 use Rattle.migration_sides.specs.declared.fault.Side.{Side}
 use Rattle.migration_sides.specs.declared.fault.Side.TheVariants.{Source, Target}
@@ -98,6 +98,9 @@ pub apart_passes : {Y G : Type 0} (told : StepFault → G) (from to work : Path)
     → Unless {X = Unit {0}} (Ok tt) (TestsApart from to work (Ok tt)) → UnlessTold told answer (next tt answer) → UnlessTold told answer (Then told (TestsApart from to work) next answer)
 apart_passes told from to work next answer = step_passes told (TestsApart from to work) next answer tt
 
+pub separate_pass : (from to work : Path) → AreSeparate from to work → TestsApart from to work (Ok tt)
+separate_pass from to work apart = (Ok tt, inl (apart.vaults, refl), (Ok tt, inl (apart.source, refl), inl (apart.target, refl)))
+
 -- ---- both vaults opened
 
 abbrev pub RefusesLoad : Side → View → Path → List ℕ → StepFault → Type 0
@@ -122,6 +125,12 @@ opens_passes told v from to from_pass to_pass next answer source target at_from 
     (λ s. Then (λ refusal. told (of_refusal Target to refusal)) (Loads (under to v) to_pass) (λ t. next (opened_in from s) (opened_in to t))) answer source.vault one
     (then_passes (told Failed) (told NoMemory) (λ refusal. told (of_refusal Target to refusal)) (Loads (under to v) to_pass) (λ t. next (opened_in from source.vault) (opened_in to t)) answer target.vault other
     (subst₂ (λ (p q : Path). UnlessTold told answer (next (opened_in p source.vault) (opened_in q target.vault) answer)) at_from at_to h))
+
+pub both_open : {G : Type 0} (told : StepFault → G) (v : View) (from to : Path) (from_pass to_pass : List ℕ) (next : OpenedVault → OpenedVault → Result (Unit {0}) G → Type 0)
+    (source target : OpenedVault) → source.root ≡ from → target.root ≡ to → Loads (under from v) from_pass (Ok source.vault) → Loads (under to v) to_pass (Ok target.vault)
+    → next source target (Ok tt) → Opens told v from to from_pass to_pass next (Ok tt)
+both_open told v from to from_pass to_pass next source target at_from at_to one other h =
+    passed_is (told Failed) (told NoMemory) tt (Opens told v from to from_pass to_pass next (Ok tt)) (opens_passes told v from to from_pass to_pass next (Ok tt) source target at_from at_to one other (inr (inr h)))
 
 -- ---- both vaults walked
 

@@ -17,6 +17,10 @@ UnlessBy failed no_memory answer P = (answer ≡ Err failed) ⊎ ((answer ≡ Er
 abbrev pub PassesOr : {G : Type 0} → Type 0 → Type 0 → G → Result (Unit {0}) G → Type 0
 PassesOr passes fails fault answer = (passes × (answer ≡ Ok tt)) ⊎ (fails × (answer ≡ Err fault))
 
+-- nothing more is tested
+abbrev pub all_pass : {X G : Type 0} → X → Result (Unit {0}) G → Type 0
+all_pass x answer = answer ≡ Ok tt
+
 -- nothing may follow
 abbrev pub nothing_follows : {X Y G : Type 0} → X → Result Y G → Type 0
 nothing_follows x answer = ⊥

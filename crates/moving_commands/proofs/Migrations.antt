@@ -268,7 +268,7 @@ module _ (moving : Moving) where
       → PrintsText (done_text done) answer taken taken' → IsPrinted answer → MigratesApart moving answer told told' taken taken' stream stream'
   migrate_printed done answer told told' taken taken' stream stream' has comes keeps moves prints is_printed = record {
     own = printed_is_own is_of_stop answer refl is_printed;
-    comes = λ v is. inr (comes_as moving.passes (migrating.IsCaused moving v) (migrating.IsWritten moving told told' stream stream') v (λ outcome. outcome ≡ Ok done)
+    comes = λ v is. inr (comes_as moving.passes (migrating.IsCaused moving v) (migrating.IsWritten moving told told' stream stream' v) v (λ outcome. outcome ≡ Ok done)
         (AnswersMove moving.work (migrating.IsRootOf moving) answer) (answers_printed (migrating.IsRootOf moving) (λ fault root. of_move moving.work root fault) answer done is_printed) (comes v is));
     keeps = keeps;
     moves = moves;

@@ -5,7 +5,7 @@ use Rattle.folder_spec.specs.Event.{Told}
 use Rattle.folder_spec.specs.Path.{Path}
 use Rattle.folder_spec.specs.Seen.{IfSeen, under}
 use Rattle.folder_spec.specs.View.{View}
-use Rattle.migrate_core.specs.Causes.{Begins, Unless}
+use Rattle.migrate_core.specs.Causes.{Begins, PassesBegin, Unless}
 use Rattle.migrate_core.specs.Completing.{CanBegin}
 use Rattle.migrate_core.specs.Limits.{IsOfLimit, PassesInTree}
 use Rattle.migrate_core.specs.Moved.{MovesTree}
@@ -19,6 +19,7 @@ use Rattle.port_model.specs.Draws.{ByteStream}
 use Rattle.migration_spec.specs.Guard.{Migration}
 use Rattle.vault_read.specs.Laws.{HasOwnFolders}
 use Rattle.vault_spec.specs.Vault.{Vault}
+use Rattle.migration_sides.specs.Unchanged.{ChangesNothing}
 use Rattle.migration_sides.specs.declared.fault.Side.TheVariants.{Target}
 use Rattle.moving_commands.specs.Moving.{AnswersMove, ArePhrases, Comes, Completes, HoldKeys, KeepsAll, Outcome, RefusesUndrawn, done_text, is_of_migration}
 use Rattle.command_opening.specs.Opening.{Opens}
@@ -65,18 +66,19 @@ root_of moving fault = moving.source
 abbrev pub IsRootOf : Moving → MoveFault → Path → Type 0
 IsRootOf moving fault root = root ≡ root_of moving fault
 
--- why `begin` comes to what it comes to under these passphrases, by what is seen at first; and what it draws and writes. Where it answers
--- that a compared content passes the limit, it does so.
+-- Why `begin` comes to what it comes to under these passphrases, by what is seen at first; and what it draws and writes. Where it answers
+-- that a compared content passes the limit, it does so. Nothing is changed unless all tests pass.
 abbrev pub IsCaused : Moving → View → List ℕ → List ℕ → Outcome → Type 0
 IsCaused moving v source_pass target_pass outcome = Unless outcome (Begins moving.names moving.source moving.target moving.work source_pass target_pass v outcome)
 
-abbrev pub IsWritten : Moving → Option Told → Option Told → Option ByteStream → Option ByteStream → List ℕ → List ℕ → Outcome → Type 0
-IsWritten moving told told' stream stream' source_pass target_pass outcome =
-    MayWriteTree outcome moving.names moving.source moving.target source_pass target_pass stream stream' told told'
+abbrev pub IsWritten : Moving → Option Told → Option Told → Option ByteStream → Option ByteStream → View → List ℕ → List ℕ → Outcome → Type 0
+IsWritten moving told told' stream stream' v source_pass target_pass outcome =
+    MayWriteTree outcome moving.names moving.source moving.target moving.work source_pass target_pass stream stream' told told'
     × IfErr outcome (IsOfLimit (PassesInTree moving.names moving.source moving.target source_pass target_pass told told'))
+    × (ChangesNothing told told' ⊎ PassesBegin moving.names moving.source moving.target moving.work source_pass target_pass v)
 
 abbrev pub ComesTo : Moving → (Outcome → Type 0) → Option Told → Option Told → Option ByteStream → Option ByteStream → View → Type 0
-ComesTo moving IsAnswered told told' stream stream' v = Comes moving.passes (IsCaused moving v) (IsWritten moving told told' stream stream') IsAnswered v
+ComesTo moving IsAnswered told told' stream stream' v = Comes moving.passes (IsCaused moving v) (IsWritten moving told told' stream stream' v) IsAnswered v
 
 -- or the passphrases aren't read
 abbrev pub MayCome : Moving → Answer → Option Told → Option Told → Option ByteStream → Option ByteStream → View → Type 0

@@ -5,7 +5,7 @@ use Rattle.folder_spec.specs.Event.{Told}
 use Rattle.folder_spec.specs.Path.{Path}
 use Rattle.folder_spec.specs.Seen.{IfSeen, IsSeen}
 use Rattle.folder_spec.specs.View.{View}
-use Rattle.migrate_core.specs.Causes.{Unless}
+use Rattle.migrate_core.specs.Causes.{PassesResume, Unless}
 use Rattle.migrate_core.specs.Causes as causes
 use Rattle.migrate_core.specs.Completing.{CanResume}
 use Rattle.migrate_core.specs.Limits.{IsOfLimit, PassesAsTold}
@@ -20,6 +20,7 @@ use Rattle.move_journal.specs.declared.journal.Journal.{Journal}
 use Rattle.move_journal.specs.Reading.{StandsIn}
 use Rattle.port_model.specs.Draws.{ByteStream}
 use Rattle.migration_spec.specs.Guard.{Migration}
+use Rattle.migration_sides.specs.Unchanged.{ChangesNothing}
 use Rattle.migration_sides.specs.declared.fault.Side.{Side}
 use Rattle.migration_sides.specs.declared.fault.Side.TheVariants.{Source, Target}
 use Rattle.moving_commands.specs.Moving.{AnswersMove, ArePhrases, Comes, Completes, HoldKeys, KeepsAll, Outcome, RefusesUndrawn, done_text, is_of_told_migration}
@@ -60,8 +61,8 @@ abbrev pub unopened : MoveFault → Option Side
 unopened (Load side fault) = Some side
 unopened fault = None
 
--- why `resume` comes to what it comes to under these passphrases, by what is seen at first; and what it draws and writes. Where it answers
--- that a compared content passes the limit, it does so.
+-- Why `resume` comes to what it comes to under these passphrases, by what is seen at first; and what it draws and writes. Where it answers
+-- that a compared content passes the limit, it does so. Nothing is changed unless all tests pass.
 abbrev pub IsCaused : Resuming → View → List ℕ → List ℕ → Outcome → Type 0
 IsCaused resuming v source_pass target_pass outcome = Unless outcome (causes.Resumes resuming.work source_pass target_pass v outcome)
 
@@ -69,6 +70,7 @@ abbrev pub IsWritten : Resuming → Option Told → Option Told → Option ByteS
 IsWritten resuming told told' stream stream' v source_pass target_pass outcome =
     MayWriteTold outcome resuming.work source_pass target_pass stream stream' told told' v
     × IfErr outcome (IsOfLimit (PassesAsTold resuming.work source_pass target_pass told told' v))
+    × (ChangesNothing told told' ⊎ PassesResume resuming.work source_pass target_pass v)
 
 abbrev pub ComesTo : Resuming → (Outcome → Type 0) → Option Told → Option Told → Option ByteStream → Option ByteStream → View → Type 0
 ComesTo resuming IsAnswered told told' stream stream' v = Comes resuming.passes (IsCaused resuming v) (IsWritten resuming told told' stream stream' v) IsAnswered v

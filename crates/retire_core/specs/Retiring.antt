@@ -81,10 +81,6 @@ Removes r s0 s (Rename old new) = Unit {0}
 abbrev pub RemovesOnly : Retiring → Option Told → Option Told → Type 0
 RemovesOnly r = Moments (λ s0 s. Unit {0}) (λ s0 s e. Removes r s0 s e.call)
 
--- no journal stands in the work folder
-abbrev pub HasNoJournal : Path → View → Type 0
-HasNoJournal work v = (journal : Journal) → IsJournal journal → ¬ StandsIn work journal v
-
 -- the migration that this journal tells, by these passphrases
 abbrev pub retiring_by : Path → List ℕ → List ℕ → Journal → Retiring
 retiring_by work from_pass to_pass journal = record { from = journal.source; to = journal.target; work = work; names = journal.names; from_pass = from_pass; to_pass = to_pass; phase = journal.phase }

@@ -71,11 +71,11 @@ returns-clause-status g c count =
     (c.status_of.ensures.status c.in-Err.ensures.blamed.own c.in-Err.ensures.blamed.may)
 
 pub returns-in-Ok-clause-drew : goal.returns-in-Ok-clause-drew
-returns-in-Ok-clause-drew g c count sees = moving_drew c.begin.result c.in_ok-source.source c.in_ok-target.target phrase phrase (g.R.Randoms.left c.args.random.now) (g.R.Randoms.left c.begin.new.random) (g.F.Folder.told c.args.folder.now)
+returns-in-Ok-clause-drew g c count sees = moving_drew c.begin.result c.in_ok-source.source c.in_ok-target.target c.in_ok-work.work phrase phrase (g.R.Randoms.left c.args.random.now) (g.R.Randoms.left c.begin.new.random) (g.F.Folder.told c.args.folder.now)
     (g.F.Folder.told c.begin.new.folder) (c.begin.ensures.written sees.view sees.seen)
 
 pub returns-clause-drew : goal.returns-clause-drew
-returns-clause-drew g c count sees = moving_drew c.begin.result c.in_ok-source.source c.in_ok-target.target phrase phrase (g.R.Randoms.left c.args.random.now) (g.R.Randoms.left c.begin.new.random) (g.F.Folder.told c.args.folder.now)
+returns-clause-drew g c count sees = moving_drew c.begin.result c.in_ok-source.source c.in_ok-target.target c.in_ok-work.work phrase phrase (g.R.Randoms.left c.args.random.now) (g.R.Randoms.left c.begin.new.random) (g.F.Folder.told c.args.folder.now)
     (g.F.Folder.told c.begin.new.folder) (c.begin.ensures.written sees.view sees.seen)
 
 pub returns-in_err-source-clause-goes : goal.returns-in_err-source-clause-goes

@@ -8,10 +8,11 @@ use Rattle.migration_sides.proofs.Told.{apart_passes, apart_refused, folder_unle
 use Rattle.migration_sides.specs.Causes.{TestsApart}
 use Rattle.migration_sides.specs.Tests.{Then}
 use Rattle.migrate_core.proofs.Blaming.{apart_begins}
-use Rattle.migrate_core.specs.Causes.{Begins, BeginsApart, Unless}
+use Rattle.migrate_core.specs.Causes.{Begins, BeginsApart, Unless, PassesBegin}
 use Rattle.migrate_core.specs.Faults.{is_of_begin, of_folder, of_step}
 use Rattle.migrate_core.specs.declared.placing.Done.{Done}
-use Rattle.migrate_core.proofs.Writings.{refused_written, may_write_after, nothing_written, settle_writes}
+use Rattle.migrate_core.proofs.Writings.{settle_writes}
+use Rattle.migrate_core.proofs.WrittenTrees.{refused_written, may_write_after, nothing_written}
 use Rattle.migrate_core.proofs.Completing.{begin_completes, folder_chance, own_faults}
 use Rattle.migrate_core.proofs.Limits.{if_taken, in_tree_before, limit_more, none_compared, none_taken}
 use Rattle.migrate_core.specs.Limits.{PassesInTree}
@@ -21,7 +22,7 @@ use Rattle.migrate_core.proofs.beginning.begin.Goals as goal
 use Rattle.migration_spec.proofs.Settling.{settle_fell, settle_seen, settle_seen_back, still_guarded}
 use Rattle.migration_sides.proofs.Chains.{fault_as, refused_as}
 use Rattle.migrate_core.proofs.Tested.{folder_tested, step_tested}
-use Rattle.migration_sides.proofs.Unchanged.{unchanged_settled}
+use Rattle.migration_sides.proofs.Unchanged.{tested_settled, unchanged, unchanged_settled}
 use Rattle.migration_spec.specs.Guard.{Guarded}
 
 pub returns-in_err-test_apart-clause-guard : goal.returns-in_err-test_apart-clause-guard
@@ -106,7 +107,20 @@ returns-clause-written g c v seen =
     let settled = g.F.Folder.told c.settle.new.self in
     let known = settle_seen told settled c.in_ok-settle.field-0 c.in_ok-settle.ensures.changes in
     may_write_after left (g.R.Randoms.left c.begin_settled.new.random) told settled (g.F.Folder.told c.begin_settled.new.folder) known (unchanged_settled told settled c.settle.result c.settle.ensures.changes) (settle_writes told settled c.settle.result c.settle.ensures.changes)
-    c.begin_settled.result c.args.names c.args.source.now c.args.target.now c.args.source_pass.now c.args.target_pass.now (c.begin_settled.ensures.written v (known v seen))
+    c.begin_settled.result c.args.names c.args.source.now c.args.target.now c.args.work.now c.args.source_pass.now c.args.target_pass.now (c.begin_settled.ensures.written v (known v seen))
+
+pub returns-in_err-test_apart-clause-tested : goal.returns-in_err-test_apart-clause-tested
+returns-in_err-test_apart-clause-tested g c = inl (unchanged _ _ refl)
+
+pub returns-in_err-settle-clause-tested : goal.returns-in_err-settle-clause-tested
+returns-in_err-settle-clause-tested g c = inl (unchanged_settled (g.F.Folder.told c.args.folder.now) (g.F.Folder.told c.settle.new.self) c.settle.result c.settle.ensures.changes)
+
+pub returns-clause-tested : goal.returns-clause-tested
+returns-clause-tested g c =
+    let t0 = g.F.Folder.told c.args.folder.now in
+    let t1 = g.F.Folder.told c.settle.new.self in
+    tested_settled t0 t1 (g.F.Folder.told c.begin_settled.new.folder) (λ v. PassesBegin c.args.names c.args.source.now c.args.target.now c.args.work.now c.args.source_pass.now c.args.target_pass.now v) c.begin_settled.ensures.tested
+    (unchanged_settled t0 t1 c.settle.result c.settle.ensures.changes) (settle_seen t0 t1 c.in_ok-settle.field-0 c.in_ok-settle.ensures.changes)
 
 pub returns-in_err-test_apart-clause-completes : goal.returns-in_err-test_apart-clause-completes
 returns-in_err-test_apart-clause-completes g c m v seen asked opened can =

@@ -1,4 +1,4 @@
-use Rattle.std.proofs.Common.{◌≡◌, ◌∙◌, sym, subst, subst₂, Err, IfErr, IfOk, inl}
+use Rattle.std.proofs.Common.{◌≡◌, ◌∙◌, sym, subst, subst₂, Err, IfErr, IfOk, Ok, inl}
 use Rattle.folder_spec.specs.Region.{apart_from_both}
 use Rattle.folder_spec.specs.Seen.{IsSeen, seen}
 use Rattle.move_journal.specs.Journal.{IsParsed}
@@ -6,9 +6,11 @@ use Rattle.migration_spec.specs.Alone.{Unbegun}
 use Rattle.migrate_core.specs.Leading.{Guards}
 use Rattle.migrate_core.specs.Moving.{MovesOnly}
 use Rattle.migrate_core.specs.Sides.{IsAsked}
-use Rattle.migration_sides.proofs.Told.{opens_passes, opens_refused, work_refused}
+use Rattle.migration_sides.proofs.Told.{both_open, opens_passes, opens_refused, separate_pass, work_refused}
 use Rattle.migration_sides.specs.Causes.{Opens}
 use Rattle.migration_sides.specs.Sides.{AreSeparate}
+use Rattle.migration_sides.specs.Tests.{all_pass}
+use Rattle.migration_sides.proofs.Unchanged.{tested_on}
 use Rattle.migration_sides.specs.Tests.{Then}
 use Rattle.migrate_core.proofs.Blaming.{step_begins}
 use Rattle.migrate_core.proofs.Movings.{moves_nowhere}
@@ -17,11 +19,11 @@ use Rattle.migrate_core.proofs.Settled.{begins, settled_by, still_settled}
 use Rattle.migrate_core.proofs.Endings.{tree_moved}
 use Rattle.migrate_core.specs.Moved.{MovesTree, Placed}
 use Rattle.vault_spec.specs.Opened.{OpenedVault}
-use Rattle.migrate_core.specs.Causes.{Answer, BeginsWith, Unless}
+use Rattle.migrate_core.specs.Causes.{Answer, BeginsWith, PassesBegin, TestsToBegin, Unless}
 use Rattle.migrate_core.specs.Faults.{of_step, of_work}
 use Rattle.migrate_core.specs.declared.placing.Done.{Done}
 use Rattle.work_folder.specs.Looking.{Tests}
-use Rattle.migrate_core.proofs.Writings.{nothing_written, tree_of}
+use Rattle.migrate_core.proofs.WrittenTrees.{nothing_written, tree_of}
 use Rattle.migrate_core.specs.Written.{MayWrite}
 use Rattle.migrate_core.proofs.Limits.{limit_in_tree, none_compared, none_taken, shared_in_tree}
 use Rattle.migrate_core.specs.Copying.{StayGood}
@@ -152,10 +154,36 @@ returns-clause-written g c v seen =
     let left2 = g.R.Randoms.left c.begin_with.new.random in
     let sides = c.in_ok-sides.sides in
     let loads = c.in_ok-sides.ensures in
-    tree_of c.begin_with.result c.args.names c.args.source.now c.args.target.now c.args.source_pass.now c.args.target_pass.now sides.source sides.target left left2 told after loads.source loads.target
+    tree_of c.begin_with.result c.args.names c.args.source.now c.args.target.now c.args.work.now c.args.source_pass.now c.args.target_pass.now sides.source sides.target left left2 told after loads.source loads.target
     (λ w is. loads.opens_source w (subst (λ t. IsSeen t w) (sym c.look.ensures.told) is)) (λ w is. loads.opens_target w (subst (λ t. IsSeen t w) (sym c.look.ensures.told) is))
-    (subst (λ n. MayWrite c.begin_with.result n sides.source sides.target left left2 told after) loads.names
-    (subst (λ t. MayWrite c.begin_with.result sides.names sides.source sides.target left left2 t after) (c.load_both.ensures.told ∙ c.look.ensures.told) c.begin_with.ensures.written))
+    (subst (λ n. MayWrite c.begin_with.result n sides.source sides.target c.args.work.now left left2 told after) loads.names
+    (subst (λ t. MayWrite c.begin_with.result sides.names sides.source sides.target c.args.work.now left left2 t after) (c.load_both.ensures.told ∙ c.look.ensures.told) c.begin_with.ensures.written))
+
+pub returns-in_err-look-clause-tested : goal.returns-in_err-look-clause-tested
+returns-in_err-look-clause-tested g c = inl c.look.ensures.told
+
+pub returns-in_err-sides-clause-tested : goal.returns-in_err-sides-clause-tested
+returns-in_err-sides-clause-tested g c = inl (c.load_both.ensures.told ∙ c.look.ensures.told)
+
+pub returns-clause-tested : goal.returns-clause-tested
+returns-clause-tested g c =
+    let from = c.args.source.now in
+    let to = c.args.target.now in
+    let work = c.args.work.now in
+    let pass = c.args.source_pass.now in
+    let pass' = c.args.target_pass.now in
+    let sides = c.in_ok-sides.sides in
+    let loads = c.in_ok-sides.ensures in
+    tested_on (g.F.Folder.told c.args.folder.now) (g.F.Folder.told c.load_both.new.folder) (g.F.Folder.told c.begin_with.new.folder)
+    (λ v. TestsToBegin sides.names sides.source sides.target v all_pass (Ok tt)) c.begin_with.ensures.tested (λ v. PassesBegin c.args.names from to work pass pass' v) (c.load_both.ensures.told ∙ c.look.ensures.told)
+    (λ v seen passed.
+    let looked = subst (λ t. IsSeen t v) (sym c.look.ensures.told) seen in
+    record {
+      apart = separate_pass from to work c.requires.apart;
+      folder = c.in_ok-look.ensures.answer v seen;
+      vaults = both_open of_step v from to pass pass' (λ source target. TestsToBegin c.args.names source target v all_pass) sides.source sides.target loads.source loads.target (loads.opens_source v looked) (loads.opens_target v looked)
+          (subst (λ n. TestsToBegin n sides.source sides.target v all_pass (Ok tt)) loads.names passed);
+    })
 
 pub returns-in_err-look-clause-too_long : goal.returns-in_err-look-clause-too_long
 returns-in_err-look-clause-too_long g c =

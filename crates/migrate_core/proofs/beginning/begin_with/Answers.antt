@@ -1,4 +1,4 @@
-use Rattle.std.proofs.Common.{◌≡◌, ◌∙◌, [], sym, ap, subst, arith, Err, IfErr, List, Ok, inl, inr}
+use Rattle.std.proofs.Common.{◌≡◌, ◌∙◌, [], sym, ap, subst, arith, Err, List, Ok, inl, inr, refl}
 use Rattle.folder_spec.specs.Seen.{IfSeen, IsSeen}
 use Rattle.migrate_core.proofs.Endings.{if_ok_more, placed_of}
 use Rattle.migrate_core.specs.Moved.{lacking}
@@ -18,8 +18,8 @@ use Rattle.migrate_core.specs.Faults.{of_step}
 use Rattle.work_folder.specs.Entering.{EntersAs}
 use Rattle.migrate_core.specs.declared.placing.Done.{Done}
 use Rattle.vault_spec.specs.Plan.{Planned}
-use Rattle.migrate_core.proofs.Writings.{moves_places, nothing_written}
-use Rattle.migrate_core.specs.Written.{LeavesRoot, WritesBy, journal_texts, lacked}
+use Rattle.migrate_core.proofs.WrittenTrees.{nothing_written}
+use Rattle.migrate_core.specs.Written.{WritesBeside, WritesBy, journal_texts, lacked}
 use Rattle.migrate_core.proofs.Started.{empty_held, may_begin}
 use Rattle.migrate_core.specs.Copying.{MayBegin}
 use Rattle.migrate_core.proofs.Limits.{ends_more, ends_uncompared}
@@ -28,7 +28,7 @@ use Rattle.migrate_core.specs.Limits.{EndsBy}
 use Rattle.migrate_core.proofs.Sharing.{source_shares}
 use Rattle.migrate_core.specs.Sharing.{IsFilled, SharesFrom, SharesWhereTidy}
 use Rattle.migrate_core.proofs.beginning.begin_with.Goals as goal
-use Rattle.migration_sides.proofs.Chains.{fault_as, own_passes, own_refused, refused_as}
+use Rattle.migration_sides.proofs.Chains.{fault_as, own_passes, own_refused, passed_is, refused_as}
 use Rattle.migrate_core.specs.declared.fault.MoveFault.TheVariants.{Failed, NoMemory}
 use Rattle.migrate_core.proofs.Tested.{step_tested}
 
@@ -156,12 +156,36 @@ returns-clause-written g c =
       items_are = c.in_ok-plans.ensures.source.plan;
       mapped_are = c.in_ok-mapped.ensures.mapped;
       there_are = c.in_ok-plans.ensures.target.plan;
-      passed = λ v is. moves_places (EntersAs v c.args.work.now) from to v mapped c.move_all.result (c.move_all.ensures.cause v (subst (λ t. IsSeen t v) (sym c.walk_both.ensures.told) is));
-      unready = λ v is. subst (λ t. IfErr c.move_all.result (LeavesRoot to.root t after)) c.walk_both.ensures.told (c.move_all.ensures.unready v (subst (λ t. IsSeen t v) (sym c.walk_both.ensures.told) is));
+      unready = elim c.move_all.ensures.unready [
+        | inl beside ↦ inl (subst (λ t. WritesBeside to.root (λ file. ⊥) t after) c.walk_both.ensures.told beside)
+        | inr empties ↦ inr (λ v is. empties v (subst (λ t. IsSeen t v) (sym c.walk_both.ensures.told) is))
+      ];
       writes = subst (λ t. WritesBy c.move_all.result from to (lacked plans.target.items mapped) (journal_texts rule from.root to.root plans.source.items) left left2 t after) c.walk_both.ensures.told
           (subst (λ there. WritesBy c.move_all.result from to (lacked there mapped) (journal_texts rule from.root to.root plans.source.items) left left2 (g.F.Folder.told c.walk_both.new.folder) after)
           (sym (sym c.as_slice.ensures ∙ c.in_ok-test_empty.ensures.empty)) c.move_all.ensures.written);
     })
+
+pub returns-in_err-plans-clause-tested : goal.returns-in_err-plans-clause-tested
+returns-in_err-plans-clause-tested g c = inl c.walk_both.ensures.told
+
+pub returns-in_err-test_empty-clause-tested : goal.returns-in_err-test_empty-clause-tested
+returns-in_err-test_empty-clause-tested g c = inl c.walk_both.ensures.told
+
+pub returns-in_err-mapped-clause-tested : goal.returns-in_err-mapped-clause-tested
+returns-in_err-mapped-clause-tested g c = inl c.walk_both.ensures.told
+
+pub returns-clause-tested : goal.returns-clause-tested
+returns-clause-tested g c = inr (λ v seen.
+    let plans = c.in_ok-plans.plans in
+    let empty : TestsEmpty plans.target.items (Ok tt) = subst (λ items. TestsEmpty items (Ok tt)) c.as_slice.ensures (passed_is Failed NoMemory tt (TestsEmpty c.as_slice.result.now (Ok tt)) c.in_ok-test_empty.ensures.cause) in (
+      Ok plans.source.items,
+      c.in_ok-plans.ensures.passed_source v seen,
+      (
+        Ok plans.target.items,
+        c.in_ok-plans.ensures.passed_target v seen,
+        (Ok tt, empty, (Ok tt, c.in_ok-mapped.ensures.passed, (Ok c.in_ok-mapped.mapped, c.in_ok-mapped.ensures.maps, refl))),
+      ),
+    ))
 
 pub move_all-requires-clause-copying : goal.move_all-requires-clause-copying
 move_all-requires-clause-copying g c =

@@ -1,4 +1,4 @@
-use Rattle.std.proofs.Common.{◌≡◌, [], Result, ◌∙◌, Ok, IfOk, sym, ap, subst, Err, Contains, ◌∷◌, refl, OnOk}
+use Rattle.std.proofs.Common.{◌≡◌, [], Result, ◌∙◌, Ok, IfOk, sym, ap, subst, Err, Contains, ◌∷◌, refl, OnOk, inl, inr}
 use Rattle.folder_spec.specs.declared.FolderFault.{FolderFault}
 use Rattle.folder_spec.specs.Region.{apart_from_both}
 use Rattle.folder_spec.specs.Seen.{IfSeen}
@@ -10,7 +10,7 @@ use Rattle.work_folder.specs.Entering.{IsLeftOver, IsReady, IsWorkOrStage, Enter
 use Rattle.migrate_core.proofs.Beginnings.{AreCited, enters_goes, told_goes, written_goes}
 use Rattle.migrate_core.proofs.Leadings.{goes_failed, goes_on, then_known}
 use Rattle.migrate_core.proofs.Movings.{moves_on, items_stay}
-use Rattle.migrate_core.proofs.WorkFolders.{entered_moves, fresh_folder, fresh_tidy, ready_stays, tidy_written, written_beside, written_folder}
+use Rattle.migrate_core.proofs.WorkFolders.{entered_empties, entered_moves, fresh_folder, fresh_tidy, ready_stays, tidy_written, written_beside, written_folder}
 use Rattle.migrate_core.specs.Leading.{LeadsTold, LeadsEach}
 use Rattle.migrate_core.specs.Moving.{MovesOnly}
 use Rattle.migrate_core.specs.Sides.{new_journal, AreItemsToMove}
@@ -20,7 +20,8 @@ use Rattle.migrate_core.proofs.Causing.{moves_pass, never_more}
 use Rattle.migrate_core.specs.Causes.{IsOfMoving, Moves, Unless, StopsAt}
 use Rattle.migrate_core.specs.Copying.{HaveOwnFolders}
 use Rattle.migrate_core.specs.Faults.{of_folder, of_work}
-use Rattle.migrate_core.proofs.Writings.{changing_writes, folder_leaves, go_on_leaves, in_first, journal_written, none_ordered, nothing_yet, beside_on, stop_is_test, stop_leaves, texts_first, texts_then, work_leaves}
+use Rattle.migrate_core.proofs.Writings.{changing_writes, in_first, journal_written, nothing_yet, beside_on, stop_is_test, texts_first, texts_then}
+use Rattle.migrate_core.proofs.WrittenTrees.{none_ordered}
 use Rattle.migrate_core.specs.Written.{WritesBeside, WritesBy, lacked}
 use Rattle.move_journal.specs.Journal.{journal_text}
 use Rattle.migrate_core.proofs.Limits.{ends_more, ends_uncompared}
@@ -32,7 +33,7 @@ use Rattle.folder_spec.specs.Seen.{under}
 use Rattle.migrate_core.proofs.beginning.move_all.Given.{Over}
 use Rattle.migrate_core.proofs.beginning.move_all.Goals as goal
 use Rattle.migrate_core.proofs.beginning.move_all.Goals.{After-write}
-use Rattle.migration_sides.proofs.Chains.{fault_as, refused_as}
+use Rattle.migration_sides.proofs.Chains.{refused_as}
 use Rattle.migration_sides.proofs.Told.{folder_unless, work_refused}
 use Rattle.migrate_core.proofs.Tested.{folder_tested, work_tested}
 use Rattle.migrate_core.proofs.Readied.{begun_readied, lacked_kept, readied_good, readied_stops, source_is, target_is, IsReadied}
@@ -329,25 +330,15 @@ returns-clause-ends g c =
     c.go_on.ensures.ends
 
 pub returns-in_err-entered-clause-unready : goal.returns-in_err-entered-clause-unready
-returns-in_err-entered-clause-unready g c v seen =
+returns-in_err-entered-clause-unready g c =
     let work = c.args.work.now in
-    let told = g.F.Folder.told c.args.folder.now in
-    let entered = g.F.Folder.told c.enter.new.folder in
-    let root = c.args.sides.now.target.root in
-    fault_as _ c.from_residual.result c.from_residual.ensures.1
-    (work_leaves root told entered (changing_writes work (IsWorkOrStage work) (IsLeftOver work) root c.requires.apart.target told entered c.enter.ensures.enters.moments) c.in_err-entered.field-0.0)
+    inl (changing_writes work (IsWorkOrStage work) (IsLeftOver work) c.args.sides.now.target.root c.requires.apart.target (g.F.Folder.told c.args.folder.now) (g.F.Folder.told c.enter.new.folder) c.enter.ensures.enters.moments)
 
 pub returns-in_err-journal-clause-unready : goal.returns-in_err-journal-clause-unready
-returns-in_err-journal-clause-unready g c v seen =
-    fault_as _ c.from_residual-in_err-journal.result c.from_residual-in_err-journal.ensures.1
-    (stop_leaves c.args.sides.now.target.root (g.F.Folder.told c.args.folder.now) (g.F.Folder.told c.enter.new.folder) c.in_err-journal.field-0.0 _ _ c.in_err-journal.ensures.moving)
+returns-in_err-journal-clause-unready g c = inr (λ v seen. entered_empties v c.args.work.now (c.in_ok-entered.ensures.enters.answer v seen))
 
 pub returns-in_err-write-clause-unready : goal.returns-in_err-write-clause-unready
-returns-in_err-write-clause-unready g c v seen =
-    fault_as _ c.from_residual-in_err-write.result c.from_residual-in_err-write.ensures.1
-    (folder_leaves c.args.sides.now.target.root (g.F.Folder.told c.args.folder.now) (g.F.Folder.told c.write.new.folder) c.in_err-write.field-0.0)
+returns-in_err-write-clause-unready g c = inr (λ v seen. entered_empties v c.args.work.now (c.in_ok-entered.ensures.enters.answer v seen))
 
 pub returns-clause-unready : goal.returns-clause-unready
-returns-clause-unready g c v seen =
-    go_on_leaves c.go_on.result _ _ _ c.args.sides.now.source c.args.items.now.mapped.items c.args.sides.now.target.root (g.F.Folder.told c.args.folder.now) (g.F.Folder.told c.write.new.folder) (g.F.Folder.told c.go_on.new.folder)
-    (text_written g (goal.at.returns-clause-unready g c).After-write) c.go_on.ensures.moving v seen
+returns-clause-unready g c = inr (λ v seen. entered_empties v c.args.work.now (c.in_ok-entered.ensures.enters.answer v seen))

@@ -15,7 +15,8 @@ use Rattle.migrate_core.specs.Copying.{CopiesAll, HasCopied}
 use Rattle.migrate_core.specs.Sides.{AllowsEach, IsMappedWalk, StandAll}
 use Rattle.vault_spec.specs.Vault.{format_of}
 use Rattle.migrate_core.specs.Written.{WritesAll, WritesBy, WritesFirst, lacked}
-use Rattle.migrate_core.proofs.Writings.{by_all, by_texts, then_texts}
+use Rattle.migrate_core.proofs.Writings.{by_texts, then_texts}
+use Rattle.migrate_core.proofs.WrittenTrees.{by_all}
 use Rattle.move_journal.specs.Journal.{journal_text}
 use Rattle.move_journal.specs.Reading.{StandsIn}
 use Rattle.migrate_core.proofs.Stopping.{later_seen}

@@ -8,7 +8,7 @@ use Rattle.vault_spec.specs.Plan.{Planned}
 use Rattle.migrate_core.proofs.Leadings.{goes_failed}
 use Rattle.migrate_core.proofs.Placings.{directory_goes, made_moves, made_ready}
 use Rattle.migrate_core.proofs.Causing.{put_stop}
-use Rattle.migrate_core.proofs.Writings.{directory_copy, directory_ends, one_begun, one_written}
+use Rattle.migrate_core.proofs.WrittenItems.{directory_copy, directory_ends, one_begun, one_written}
 use Rattle.migrate_core.proofs.Stopping.{directory_stops, refusal_tells}
 use Rattle.migrate_core.specs.Causes.{StopsAt}
 use Rattle.migrate_core.specs.Copying.{Enters}

@@ -15,7 +15,8 @@ use Rattle.migrate_core.proofs.Leadings.{goes_failed}
 use Rattle.migrate_core.proofs.Movings.{moves_nowhere}
 use Rattle.migrate_core.proofs.Placings.{file_goes, made_moves, made_ready}
 use Rattle.migrate_core.proofs.Planned.{content_elsewhere, content_is, content_ready, coming_told, IsContentOf}
-use Rattle.migrate_core.proofs.Writings.{file_copy, file_ends, nothing_yet, one_begun, one_written, only_nowhere}
+use Rattle.migrate_core.proofs.Writings.{nothing_yet, only_nowhere}
+use Rattle.migrate_core.proofs.WrittenItems.{file_copy, file_ends, one_begun, one_written}
 use Rattle.migrate_core.specs.Written.{BringsOnlyTo}
 use Rattle.migrate_core.proofs.Causing.{put_stop}
 use Rattle.migrate_core.specs.Causes.{StopsAt}

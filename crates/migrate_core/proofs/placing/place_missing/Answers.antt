@@ -9,7 +9,8 @@ use Rattle.migrate_core.proofs.Leadings.{goes_failed, goes_on, guards_on, leads_
 use Rattle.migrate_core.proofs.Compared.{source_tells}
 use Rattle.migrate_core.proofs.Movings.{moves_nowhere, moves_on, mapped_stay}
 use Rattle.migrate_core.specs.Written.{BringsOnlyTo, WritesAll, WritesBy, WritesFirst, lacked, slices}
-use Rattle.migrate_core.proofs.Writings.{all_on, first_of_more, first_on, lacked_is, lacked_next, lacked_split, next_among, only_nowhere, texts_alone, next_kept}
+use Rattle.migrate_core.proofs.Writings.{all_on, first_of_more, first_on, only_nowhere, texts_alone}
+use Rattle.migrate_core.proofs.SourcePlaces.{lacked_is, lacked_next, lacked_split, next_among, next_kept}
 use Rattle.migrate_core.proofs.Stopping.{stops_before}
 use Rattle.migrate_core.proofs.Copyings.{all_copied, none_copied, one_copied, there_copied}
 use Rattle.migrate_core.proofs.Entered.{next_enters}

@@ -1,4 +1,4 @@
-use Rattle.std.proofs.Common.{◌≡◌, ◌∙◌, Result, Ok, sym, ap, arith, subst, Contains, [], ◌∷◌, IfErr}
+use Rattle.std.proofs.Common.{◌≡◌, ◌∙◌, Result, Ok, sym, ap, arith, subst, Contains, [], ◌∷◌, IfErr, inl, inr}
 use Rattle.folder_spec.specs.Region.{apart_from, apart_from_both, IsAsBefore}
 use Rattle.migration_spec.specs.Alone.{Finished}
 use Rattle.vault_walk.specs.Survey.{IsOrdered}
@@ -20,7 +20,7 @@ use Rattle.migrate_core.specs.Moved.{Moved, lacking, done_of}
 use Rattle.migrate_core.specs.Causes.{IsOfMoving, Moves, Unless, StopsAt, StopsSeen}
 use Rattle.migrate_core.specs.Copying.{HasCopied, HaveOwnFolders}
 use Rattle.migrate_core.specs.Faults.{of_work}
-use Rattle.migrate_core.proofs.Writings.{changing_writes, go_on_leaves, nothing_yet, only_more, texts_then, work_leaves}
+use Rattle.migrate_core.proofs.Writings.{changing_writes, nothing_yet, only_more, texts_then}
 use Rattle.migrate_core.specs.Written.{BringsOnlyTo, WritesBy, lacked, WritesBeside}
 use Rattle.move_journal.specs.Journal.{journal_text}
 use Rattle.move_journal.specs.Reading.{StandsIn}
@@ -32,7 +32,7 @@ use Rattle.migrate_core.specs.Sharing.{IsFilled, SharesFrom}
 use Rattle.migrate_core.proofs.resuming.place_rest.Given.{Over}
 use Rattle.migrate_core.proofs.resuming.place_rest.Goals as goal
 use Rattle.migrate_core.proofs.resuming.place_rest.Goals.{After-again}
-use Rattle.migration_sides.proofs.Chains.{fault_as, refused_as}
+use Rattle.migration_sides.proofs.Chains.{refused_as}
 use Rattle.migration_sides.proofs.Told.{work_refused}
 use Rattle.migrate_core.proofs.Tested.{work_tested}
 use Rattle.migrate_core.proofs.Readied.{lacked_kept, readied_good, readied_stops, IsReadied}
@@ -217,17 +217,7 @@ returns-clause-ends g c =
     (subst (λ xs. EndsBy (CopiesAll rule from to xs mapped ready after) (SharesFrom (IsFilled rule from to xs) to mapped left left' ready after) rule from to after c.go_on.result) c.as_slice-there.ensures c.go_on.ensures.ends)
 
 pub returns-in_err-again-clause-unready : goal.returns-in_err-again-clause-unready
-returns-in_err-again-clause-unready g c v seen =
-    fault_as _ c.from_residual.result c.from_residual.ensures.1
-    (work_leaves c.args.sides.now.target.root (g.F.Folder.told c.args.folder.now) (g.F.Folder.told c.again.new.folder) (no_file g (goal.at.returns-in_err-again-clause-unready g c).After-again) c.in_err-again.field-0.0)
+returns-in_err-again-clause-unready g c = inl (no_file g (goal.at.returns-in_err-again-clause-unready g c).After-again)
 
 pub returns-clause-unready : goal.returns-clause-unready
-returns-clause-unready g c v seen =
-    let rule = c.args.sides.now.names in
-    let from = c.args.sides.now.source in
-    let to = c.args.sides.now.target in
-    let mapped = c.args.items.now.mapped.items in
-    let ready = g.F.Folder.told c.again.new.folder in
-    go_on_leaves c.go_on.result _ _ (HasCopied rule from to c.args.target.now.items) from mapped to.root (g.F.Folder.told c.args.folder.now) ready (g.F.Folder.told c.go_on.new.folder)
-    (no_file g (goal.at.returns-clause-unready g c).After-again)
-    (subst (λ xs. IfErr c.go_on.result (StopsSeen (HasCopied rule from to xs) ready from mapped)) c.as_slice-there.ensures c.go_on.ensures.moving) v seen
+returns-clause-unready g c = inr c.in_ok-again.ensures.restages.answer

@@ -4,8 +4,9 @@ use Rattle.folder_spec.specs.Seen.{IfSeen}
 use Rattle.migrate_core.proofs.Endings.{if_ok_more, told_before}
 use Rattle.migrate_core.specs.Moved.{MovesTold}
 use Rattle.migrate_core.specs.Faults.{is_of_resume, of_folder}
-use Rattle.migrate_core.specs.Causes.{Resumes, Unless}
-use Rattle.migrate_core.proofs.Writings.{refused_written, settle_writes, told_after}
+use Rattle.migrate_core.specs.Causes.{Resumes, Unless, PassesResume}
+use Rattle.migrate_core.proofs.Writings.{settle_writes}
+use Rattle.migrate_core.proofs.WrittenTrees.{refused_written, told_after}
 use Rattle.std.proofs.Common.{inl, Ok, refl}
 use Rattle.migrate_core.proofs.Completing.{folder_chance, own_faults}
 use Rattle.migrate_core.proofs.Continuing.{resume_completes}
@@ -18,7 +19,7 @@ use Rattle.migration_spec.proofs.Tellings.{folders_of}
 use Rattle.migration_sides.proofs.Chains.{fault_as, refused_as}
 use Rattle.migration_sides.proofs.Told.{folder_unless}
 use Rattle.migrate_core.proofs.Tested.{folder_tested}
-use Rattle.migration_sides.proofs.Unchanged.{unchanged_settled}
+use Rattle.migration_sides.proofs.Unchanged.{tested_settled, unchanged_settled}
 
 pub returns-in_err-settle-clause-guard : goal.returns-in_err-settle-clause-guard
 returns-in_err-settle-clause-guard g c = λ migration resumed opened.
@@ -79,6 +80,16 @@ returns-clause-written g c v seen =
     let known = settle_seen told settled c.in_ok-settle.field-0 c.in_ok-settle.ensures.changes in
     told_after left (g.R.Randoms.left c.resume_settled.new.random) told settled (g.F.Folder.told c.resume_settled.new.folder) known (unchanged_settled told settled c.settle.result c.settle.ensures.changes) (settle_writes told settled c.settle.result c.settle.ensures.changes)
     c.resume_settled.result c.args.work.now c.args.source_pass.now c.args.target_pass.now v (c.resume_settled.ensures.written v (known v seen))
+
+pub returns-in_err-settle-clause-tested : goal.returns-in_err-settle-clause-tested
+returns-in_err-settle-clause-tested g c = inl (unchanged_settled (g.F.Folder.told c.args.folder.now) (g.F.Folder.told c.settle.new.self) c.settle.result c.settle.ensures.changes)
+
+pub returns-clause-tested : goal.returns-clause-tested
+returns-clause-tested g c =
+    let t0 = g.F.Folder.told c.args.folder.now in
+    let t1 = g.F.Folder.told c.settle.new.self in
+    tested_settled t0 t1 (g.F.Folder.told c.resume_settled.new.folder) (λ v. PassesResume c.args.work.now c.args.source_pass.now c.args.target_pass.now v) c.resume_settled.ensures.tested
+    (unchanged_settled t0 t1 c.settle.result c.settle.ensures.changes) (settle_seen t0 t1 c.in_ok-settle.field-0 c.in_ok-settle.ensures.changes)
 
 pub returns-in_err-settle-clause-completes : goal.returns-in_err-settle-clause-completes
 returns-in_err-settle-clause-completes g c m v seen asked opened can =

@@ -9,20 +9,22 @@ use Rattle.migrate_core.proofs.Endings.{if_ok_more}
 use Rattle.migrate_core.specs.Moved.{MovesTold, MovesTree}
 use Rattle.migration_sides.proofs.Told.{apart_passes, apart_refused, work_refused}
 use Rattle.migration_sides.specs.Causes.{TestsApart}
+use Rattle.migration_sides.specs.declared.fault.StepFault.TheVariants as steps
+use Rattle.migration_sides.proofs.Unchanged.{tested_on}
 use Rattle.migration_sides.specs.Tests.{Then}
 use Rattle.migrate_core.proofs.Blaming.{apart_resumes}
-use Rattle.migrate_core.specs.Causes.{Resumes, ResumesTold, Unless, is_done, Answer}
+use Rattle.migrate_core.specs.Causes.{PassesResume, PassesTold, Resumes, ResumesTold, Unless, is_done, Answer}
 use Rattle.work_folder.specs.Looking.{Gives, TestsEntries}
 use Rattle.move_journal.specs.Reading.{ReadsAs, journal_bytes}
 use Rattle.move_journal.proofs.Standing.{read_stands}
 use Rattle.migrate_core.specs.Faults.{of_journal, of_step, of_work}
 use Rattle.migrate_core.specs.declared.placing.Done.{Done}
-use Rattle.migrate_core.proofs.Writings.{nothing_written, told_of}
+use Rattle.migrate_core.proofs.WrittenTrees.{nothing_written, told_of}
 use Rattle.migrate_core.specs.Written.{MayWriteTree}
 use Rattle.migrate_core.proofs.Limits.{limit_more, none_compared}
 use Rattle.migrate_core.specs.Limits.{PassesAsTold, PassesInTree}
 use Rattle.migrate_core.proofs.resuming.resume_settled.Goals as goal
-use Rattle.migration_sides.proofs.Chains.{fault_as, refused_as, then_passes, then_refused}
+use Rattle.migration_sides.proofs.Chains.{fault_as, passed_is, refused_as, then_passes, then_refused}
 use Rattle.migrate_core.specs.declared.fault.MoveFault.TheVariants.{Failed, NoMemory}
 use Rattle.migrate_core.proofs.Tested.{journal_tested, step_tested, work_tested}
 use Rattle.folder_spec.specs.Path.{Path}
@@ -170,7 +172,32 @@ returns-clause-written g c v seen =
     let pass' = c.args.target_pass.now in
     let same = c.look_again.ensures.told ∙ c.read.ensures.told in
     told_of c.resume_told.result c.args.work.now pass pass' left left2 told after v read c.in_ok-journal.ensures.journal (read_stands c.args.work.now v read (c.in_ok-journal.ensures.answer v seen))
-    (subst (λ t. MayWriteTree c.resume_told.result read.names read.source read.target pass pass' left left2 t after) same (c.resume_told.ensures.written v (subst (λ t. IsSeen t v) (sym same) seen)))
+    (subst (λ t. MayWriteTree c.resume_told.result read.names read.source read.target c.args.work.now pass pass' left left2 t after) same (c.resume_told.ensures.written v (subst (λ t. IsSeen t v) (sym same) seen)))
+
+pub returns-in_err-journal-clause-tested : goal.returns-in_err-journal-clause-tested
+returns-in_err-journal-clause-tested g c = inl c.read.ensures.told
+
+pub returns-in_err-test_apart-clause-tested : goal.returns-in_err-test_apart-clause-tested
+returns-in_err-test_apart-clause-tested g c = inl c.read.ensures.told
+
+pub returns-in_err-look_again-clause-tested : goal.returns-in_err-look_again-clause-tested
+returns-in_err-look_again-clause-tested g c = inl (c.look_again.ensures.told ∙ c.read.ensures.told)
+
+pub returns-clause-tested : goal.returns-clause-tested
+returns-clause-tested g c =
+    let work = c.args.work.now in
+    let pass = c.args.source_pass.now in
+    let pass' = c.args.target_pass.now in
+    let read = c.in_ok-journal.journal in
+    tested_on (g.F.Folder.told c.args.folder.now) (g.F.Folder.told c.look_again.new.folder) (g.F.Folder.told c.resume_told.new.folder)
+    (λ v. PassesTold work pass pass' read v) c.resume_told.ensures.tested (λ v. PassesResume work pass pass' v) (c.look_again.ensures.told ∙ c.read.ensures.told)
+    (λ v seen told. record {
+      journal = read;
+      reads = c.in_ok-journal.ensures.answer v seen;
+      apart = passed_is steps.Failed steps.NoMemory tt (TestsApart read.source read.target work (Ok tt)) c.in_ok-test_apart.ensures.cause;
+      entries = subst (λ old. TestsEntries old v work (Ok tt)) c.is_done.ensures (c.in_ok-look_again.ensures.answer v (subst (λ t. IsSeen t v) (sym c.read.ensures.told) seen));
+      told = told;
+    })
 
 pub returns-in_err-journal-clause-too_long : goal.returns-in_err-journal-clause-too_long
 returns-in_err-journal-clause-too_long g c v seen =

@@ -1,11 +1,13 @@
-use Rattle.std.proofs.Common.{◌≡◌, ◌∙◌, sym, subst, subst₂, Err, inl}
+use Rattle.std.proofs.Common.{◌≡◌, ◌∙◌, sym, subst, subst₂, Err, Ok, inl}
 use Rattle.folder_spec.specs.Region.{apart_from_both}
 use Rattle.folder_spec.specs.Seen.{IsSeen, seen}
 use Rattle.migrate_core.specs.Leading.{Guards, progress_of}
 use Rattle.migrate_core.specs.Moving.{MovesOnly}
-use Rattle.migration_sides.proofs.Told.{opens_passes, opens_refused}
+use Rattle.migration_sides.proofs.Told.{both_open, opens_passes, opens_refused}
 use Rattle.migration_sides.specs.Causes.{Opens}
 use Rattle.migration_sides.specs.Sides.{AreSeparate}
+use Rattle.migration_sides.specs.Tests.{all_pass}
+use Rattle.migration_sides.proofs.Unchanged.{tested_on}
 use Rattle.migrate_core.proofs.Blaming.{step_resumes}
 use Rattle.migrate_core.proofs.Movings.{moves_nowhere}
 use Rattle.migrate_core.proofs.Planned.{seen_of}
@@ -13,16 +15,16 @@ use Rattle.migrate_core.proofs.Settled.{resumes, settled_by, still_settled}
 use Rattle.migrate_core.proofs.Endings.{tree_moved}
 use Rattle.migrate_core.specs.Moved.{Placed}
 use Rattle.vault_spec.specs.Opened.{OpenedVault}
-use Rattle.migrate_core.specs.Causes.{Answer, ResumesTold, ResumesWith, TestsSource, Unless}
+use Rattle.migrate_core.specs.Causes.{Answer, PassesTold, ResumesTold, ResumesWith, TestsSource, TestsToResume, Unless}
 use Rattle.migrate_core.specs.Faults.{of_step}
 use Rattle.migrate_core.specs.declared.placing.Done.{Done}
-use Rattle.migrate_core.proofs.Writings.{nothing_written, tree_of}
+use Rattle.migrate_core.proofs.WrittenTrees.{nothing_written, tree_of}
 use Rattle.migrate_core.specs.Written.{MayWrite}
 use Rattle.migrate_core.proofs.Limits.{limit_in_tree, none_compared}
 use Rattle.migrate_core.specs.Copying.{StayGood}
 use Rattle.migrate_core.specs.Limits.{EndsBy}
 use Rattle.migrate_core.proofs.resuming.resume_told.Goals as goal
-use Rattle.migration_sides.proofs.Chains.{fault_as, own_passes, own_refused, refused_as}
+use Rattle.migration_sides.proofs.Chains.{fault_as, own_passes, own_refused, passed_is, refused_as}
 use Rattle.migrate_core.specs.declared.fault.MoveFault.TheVariants.{Failed, NoMemory}
 use Rattle.migrate_core.proofs.Tested.{step_tested}
 
@@ -156,9 +158,32 @@ returns-clause-written g c v seen =
     let sides = c.in_ok-sides.sides in
     let loads = c.in_ok-sides.ensures in
     let same = c.load_both.ensures.told ∙ c.test_source.ensures.told in
-    tree_of c.resume_with.result c.args.journal.names c.args.journal.source c.args.journal.target c.args.source_pass.now c.args.target_pass.now sides.source sides.target left left2 told after loads.source loads.target
+    tree_of c.resume_with.result c.args.journal.names c.args.journal.source c.args.journal.target c.args.work.now c.args.source_pass.now c.args.target_pass.now sides.source sides.target left left2 told after loads.source loads.target
     (λ w is. loads.opens_source w (subst (λ t. IsSeen t w) (sym c.test_source.ensures.told) is)) (λ w is. loads.opens_target w (subst (λ t. IsSeen t w) (sym c.test_source.ensures.told) is))
-    (subst (λ t. MayWrite c.resume_with.result c.args.journal.names sides.source sides.target left left2 t after) same (c.resume_with.ensures.written v (subst (λ t. IsSeen t v) (sym same) seen)))
+    (subst (λ t. MayWrite c.resume_with.result c.args.journal.names sides.source sides.target c.args.work.now left left2 t after) same (c.resume_with.ensures.written v (subst (λ t. IsSeen t v) (sym same) seen)))
+
+pub returns-in_err-test_source-clause-tested : goal.returns-in_err-test_source-clause-tested
+returns-in_err-test_source-clause-tested g c = inl c.test_source.ensures.told
+
+pub returns-in_err-sides-clause-tested : goal.returns-in_err-sides-clause-tested
+returns-in_err-sides-clause-tested g c = inl (c.load_both.ensures.told ∙ c.test_source.ensures.told)
+
+pub returns-clause-tested : goal.returns-clause-tested
+returns-clause-tested g c =
+    let work = c.args.work.now in
+    let journal = c.args.journal in
+    let pass = c.args.source_pass.now in
+    let pass' = c.args.target_pass.now in
+    let sides = c.in_ok-sides.sides in
+    let loads = c.in_ok-sides.ensures in
+    tested_on (g.F.Folder.told c.args.folder.now) (g.F.Folder.told c.load_both.new.folder) (g.F.Folder.told c.resume_with.new.folder)
+    (λ v. TestsToResume sides.source sides.target journal v all_pass (Ok tt)) c.resume_with.ensures.tested (λ v. PassesTold work pass pass' journal v) (c.load_both.ensures.told ∙ c.test_source.ensures.told)
+    (λ v seen passed.
+    let once = subst (λ t. IsSeen t v) (sym c.test_source.ensures.told) seen in
+    record {
+      source = passed_is Failed NoMemory tt (TestsSource journal.phase work journal.source v (Ok tt)) (c.in_ok-test_source.ensures.cause v seen);
+      vaults = both_open of_step v journal.source journal.target pass pass' (λ source target. TestsToResume source target journal v all_pass) sides.source sides.target loads.source loads.target (loads.opens_source v once) (loads.opens_target v once) passed;
+    })
 
 pub returns-in_err-test_source-clause-too_long : goal.returns-in_err-test_source-clause-too_long
 returns-in_err-test_source-clause-too_long g c =

@@ -1,4 +1,4 @@
-use Rattle.std.proofs.Common.{◌≡◌, ◌∙◌, sym, subst, arith, Err, IfErr, List, [], inl, inr, ◌∷◌}
+use Rattle.std.proofs.Common.{◌≡◌, ◌∙◌, sym, subst, arith, Err, List, Ok, [], inl, inr, refl, ◌∷◌}
 use Rattle.migrate_core.proofs.Endings.{if_ok_more, placed_of}
 use Rattle.migrate_core.specs.Moved.{lacking, done_of}
 use Rattle.folder_spec.specs.Seen.{IfSeen, IsSeen}
@@ -12,13 +12,14 @@ use Rattle.migrate_core.proofs.Blaming.{step_resumes}
 use Rattle.migrate_core.proofs.Leadings.{refused_nowhere}
 use Rattle.migrate_core.proofs.Movings.{moves_nowhere}
 use Rattle.migrate_core.proofs.Causing.{items_pass, items_refused}
-use Rattle.migrate_core.specs.Causes.{Answer, Moves, ResumesWith, TestsItems, Unless}
+use Rattle.migrate_core.specs.Causes.{Answer, Moves, ResumesWith, TestsItems, TestsToResume, Unless}
 use Rattle.migrate_core.specs.Faults.{of_step}
 use Rattle.work_folder.specs.Entering.{Empties}
 use Rattle.vault_spec.specs.Plan.{Planned}
 use Rattle.migrate_core.specs.declared.placing.Done.{Done}
-use Rattle.migrate_core.proofs.Writings.{by_texts, done_text, moves_places, nothing_written}
-use Rattle.migrate_core.specs.Written.{LeavesRoot, WritesBy, journal_texts, lacked}
+use Rattle.migrate_core.proofs.Writings.{by_texts}
+use Rattle.migrate_core.proofs.WrittenTrees.{done_text, nothing_written}
+use Rattle.migrate_core.specs.Written.{WritesBeside, WritesBy, journal_texts, lacked}
 use Rattle.move_journal.specs.Journal.{journal_text}
 use Rattle.migrate_core.proofs.Started.{matched_held, may_begin}
 use Rattle.migrate_core.specs.Copying.{MayBegin}
@@ -27,7 +28,9 @@ use Rattle.migrate_core.specs.Copying.{StayGood}
 use Rattle.migrate_core.specs.Limits.{EndsBy}
 use Rattle.migrate_core.proofs.Sharing.{whichever_taken}
 use Rattle.migrate_core.proofs.resuming.resume_with.Goals as goal
-use Rattle.migration_sides.proofs.Chains.{fault_as, refused_as}
+use Rattle.migration_sides.proofs.Chains.{fault_as, passed_is, refused_as}
+use Rattle.migration_sides.specs.Tests.{all_pass}
+use Rattle.migrate_core.specs.declared.fault.MoveFault.TheVariants.{Failed, NoMemory}
 use Rattle.migrate_core.proofs.Tested.{step_tested}
 
 pub returns-in_err-plans-clause-guard : goal.returns-in_err-plans-clause-guard
@@ -153,12 +156,32 @@ returns-clause-written g c v seen =
       items_are = c.in_ok-plans.ensures.source.plan;
       mapped_are = subst (λ n. IsMappedPlan n items mapped) (sym c.requires.names_named) c.in_ok-mapped.ensures.mapped;
       there_are = c.in_ok-plans.ensures.target.plan;
-      passed = λ w is. moves_places (Empties w c.args.work.now) from to w mapped c.place_rest.result (c.place_rest.ensures.cause w (subst (λ t. IsSeen t w) (sym same) is));
-      unready = λ w is. subst (λ t. IfErr c.place_rest.result (LeavesRoot to.root t after)) same (c.place_rest.ensures.unready w (subst (λ t. IsSeen t w) (sym same) is));
+      unready = elim c.place_rest.ensures.unready [
+        | inl beside ↦ inl (subst (λ t. WritesBeside to.root (λ file. ⊥) t after) same beside)
+        | inr empties ↦ inr (λ w is. empties w (subst (λ t. IsSeen t w) (sym same) is))
+      ];
       writes = by_texts from to (lacked there mapped) (journal_text (done_of journal) ∷ []) (journal_texts journal.names from.root to.root items) left left2 told after text c.place_rest.result
           (subst (λ t. WritesBy c.place_rest.result from to (lacked there mapped) (journal_text (done_of journal) ∷ []) left left2 t after) same
           (c.place_rest.ensures.written v (subst (λ t. IsSeen t v) (sym same) seen)));
     })
+
+pub returns-in_err-plans-clause-tested : goal.returns-in_err-plans-clause-tested
+returns-in_err-plans-clause-tested g c = inl c.walk_both.ensures.told
+
+pub returns-in_err-mapped-clause-tested : goal.returns-in_err-mapped-clause-tested
+returns-in_err-mapped-clause-tested g c = inl (c.test_plans.ensures.told ∙ c.walk_both.ensures.told)
+
+pub returns-clause-tested : goal.returns-clause-tested
+returns-clause-tested g c = inr (λ v seen.
+    let from = c.args.sides.now.source in
+    let to = c.args.sides.now.target in
+    let journal = c.args.journal in
+    let items = c.in_ok-plans.plans.source.items in
+    let there = c.in_ok-plans.plans.target.items in
+    let once = subst (λ t. IsSeen t v) (sym c.walk_both.ensures.told) seen in
+    passed_is Failed NoMemory tt (TestsToResume from to journal v all_pass (Ok tt))
+    (walks_passes of_step from to v (λ items there. TestsItems from to journal v items there all_pass) (Ok tt) items there (c.in_ok-plans.ensures.passed_source v seen) (c.in_ok-plans.ensures.passed_target v seen)
+    (items_pass from to journal v items there all_pass c.in_ok-mapped.mapped.items (Ok tt) (c.in_ok-mapped.ensures.passed v once) (inr (inr refl)))))
 
 pub place_rest-requires-clause-copying : goal.place_rest-requires-clause-copying
 place_rest-requires-clause-copying g c =

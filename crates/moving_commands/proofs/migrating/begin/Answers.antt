@@ -1,7 +1,9 @@
 use Rattle.std.proofs.Common.{subst, Ok, Err, IfErr, inl, inr, refl, sym}
 use Rattle.std.proofs.lemmas.Result.{err_from_is_err_and}
 use Rattle.folder_spec.specs.Seen.{IfSeen, IsSeen}
+use Rattle.migrate_core.specs.Causes.{PassesBegin}
 use Rattle.migrate_core.specs.Moved.{MovesTree}
+use Rattle.migration_sides.proofs.Unchanged.{tested_seen}
 use Rattle.migrate_core.specs.Completing.{CanBegin}
 use Rattle.migration_spec.specs.Guard.{Migration}
 use Rattle.moving_commands.specs.Migrate.{IsAskedFor, IsWritten, MayCome}
@@ -65,7 +67,7 @@ returns-in-Ok-clause-came g c = λ v is.
           (c.in_ok-phrases.ensures.source v is) (c.in_ok-phrases.ensures.target v is);
       outcome = Ok c.in-Ok.done;
       cause = c.in-Ok.ensures.cause v seen;
-      does = subst (λ t. IsWritten moving t told' stream stream' c.as_slice.result.now c.as_slice-2.result.now (Ok c.in-Ok.done)) c.in_ok-phrases.ensures.told (c.in-Ok.ensures.written v seen, tt);
+      does = subst (λ t. IsWritten moving t told' stream stream' v c.as_slice.result.now c.as_slice-2.result.now (Ok c.in-Ok.done)) c.in_ok-phrases.ensures.told (c.in-Ok.ensures.written v seen, tt, tested_seen (g.F.Folder.told c.read_passes.new.folder) told' (λ w. PassesBegin moving.names moving.source moving.target moving.work c.as_slice.result.now c.as_slice-2.result.now w) v seen c.begin.ensures.tested);
       answers = refl;
     }
 
@@ -83,7 +85,7 @@ returns-clause-stopped g c = λ v is.
           (c.in_ok-phrases.ensures.source v is) (c.in_ok-phrases.ensures.target v is);
       outcome = Err c.in-Err.fault;
       cause = c.in-Err.ensures.cause v seen;
-      does = subst (λ t. IsWritten moving t told' stream stream' c.as_slice.result.now c.as_slice-2.result.now (Err c.in-Err.fault)) c.in_ok-phrases.ensures.told (c.in-Err.ensures.written v seen, c.in-Err.ensures.too_long);
+      does = subst (λ t. IsWritten moving t told' stream stream' v c.as_slice.result.now c.as_slice-2.result.now (Err c.in-Err.fault)) c.in_ok-phrases.ensures.told (c.in-Err.ensures.written v seen, c.in-Err.ensures.too_long, tested_seen (g.F.Folder.told c.read_passes.new.folder) told' (λ w. PassesBegin moving.names moving.source moving.target moving.work c.as_slice.result.now c.as_slice-2.result.now w) v seen c.begin.ensures.tested);
       answers = elim c.answer_to_move.ensures.answers [ inl memory ↦ inl memory | inr same ↦ inr (c.root_of-root.result.now, c.root_of-root.ensures, same) ];
     })
 

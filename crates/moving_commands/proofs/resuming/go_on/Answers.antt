@@ -4,6 +4,8 @@ use Rattle.folder_spec.specs.Seen.{IfSeen, IsSeen}
 use Rattle.migrate_core.specs.Moved.{MovesTold}
 use Rattle.migrate_core.specs.Completing.{CanResume}
 use Rattle.migrate_core.specs.Moving.{MovesOnly}
+use Rattle.migrate_core.specs.Causes.{PassesResume}
+use Rattle.migration_sides.proofs.Unchanged.{tested_seen}
 use Rattle.migration_spec.specs.Guard.{Migration}
 use Rattle.moving_commands.specs.Moving.{ArePhrases, Completes}
 use Rattle.moving_commands.specs.Resume.{IsResumedFor, IsWritten, MayCome, root_by, unopened}
@@ -71,7 +73,7 @@ returns-in-Ok-clause-came g c = λ v is.
           (c.in_ok-known.ensures.source v is) (c.in_ok-known.ensures.target v is);
       outcome = Ok c.in-Ok.done;
       cause = c.in-Ok.ensures.cause v seen;
-      does = subst (λ t. IsWritten resuming t told' stream stream' v c.as_slice.result.now c.as_slice-2.result.now (Ok c.in-Ok.done)) same (c.in-Ok.ensures.written v seen, tt);
+      does = subst (λ t. IsWritten resuming t told' stream stream' v c.as_slice.result.now c.as_slice-2.result.now (Ok c.in-Ok.done)) same (c.in-Ok.ensures.written v seen, tt, tested_seen (g.F.Folder.told c.learn.new.folder) told' (λ w. PassesResume resuming.work c.as_slice.result.now c.as_slice-2.result.now w) v seen c.resume.ensures.tested);
       answers = refl;
     }
 
@@ -92,7 +94,7 @@ returns-clause-stopped g c = λ v is.
           (c.in_ok-known.ensures.source v is) (c.in_ok-known.ensures.target v is);
       outcome = Err c.in-Err.fault;
       cause = cause;
-      does = subst (λ t. IsWritten resuming t told' stream stream' v c.as_slice.result.now c.as_slice-2.result.now (Err c.in-Err.fault)) same (c.in-Err.ensures.written v seen, c.in-Err.ensures.too_long v seen);
+      does = subst (λ t. IsWritten resuming t told' stream stream' v c.as_slice.result.now c.as_slice-2.result.now (Err c.in-Err.fault)) same (c.in-Err.ensures.written v seen, c.in-Err.ensures.too_long v seen, tested_seen (g.F.Folder.told c.learn.new.folder) told' (λ w. PassesResume resuming.work c.as_slice.result.now c.as_slice-2.result.now w) v seen c.resume.ensures.tested);
       answers = elim c.stopped.ensures.answers [
         | inl memory ↦ inl memory
         | inr named ↦ inr (

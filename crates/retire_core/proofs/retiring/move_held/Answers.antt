@@ -1,10 +1,10 @@
-use Rattle.std.proofs.Common.{◌≡◌, ◌∙◌, OnOk, subst, subst₂, Err, Ok, sym, ◌⊎◌, inl, inr}
-use Rattle.folder_spec.specs.Seen.{IsSeen, moved_view}
+use Rattle.std.proofs.Common.{◌≡◌, ◌∙◌, OnOk, subst, subst₂, Err, Ok, sym, inl, inr}
+use Rattle.folder_spec.specs.Seen.{IfSeen, IsSeen, moved_view}
 use Rattle.migration_sides.specs.Sides.{opened_in}
 use Rattle.migration_spec.specs.Guard.{Migration, old_path}
 use Rattle.port_model.specs.Counts.{CountRose}
 use Rattle.retire_core.proofs.Away.{StaysInOrder, order_same}
-use Rattle.retire_core.proofs.Blaming.{blamed_step, folder_removal, if_err_both}
+use Rattle.retire_core.proofs.Blaming.{blamed_step}
 use Rattle.retire_core.proofs.Courses.{held_moves, held_same}
 use Rattle.retire_core.proofs.Going.{done_same}
 use Rattle.retire_core.specs.Clearing.{MovesHeldOnly}
@@ -12,18 +12,35 @@ use Rattle.retire_core.specs.Guarding.{ComesFromDone, KeepsDone}
 use Rattle.retire_core.specs.Retiring.{AreHeld, retiring_by}
 use Rattle.migration_sides.proofs.Chains.{fault_as, passed_is, refused_as}
 use Rattle.retire_core.proofs.Causing.{both_opened, closed, ends}
-use Rattle.retire_core.specs.Causes.{Answer, TestsHeld, TestsVaults, Unless, IsOfFolder}
+use Rattle.retire_core.specs.Causes.{Answer, TestsHeld, TestsVaults, Unless}
 use Rattle.retire_core.specs.declared.fault.RetireFault.{RetireFault}
 use Rattle.retire_core.specs.declared.fault.RetireFault.TheVariants.{Failed, NoMemory}
 use Rattle.folder_spec.specs.View.{View}
-use Rattle.retire_core.specs.Faults.{IsOfRemoval}
+use Rattle.retire_core.proofs.retiring.move_held.Given.{Over}
 use Rattle.retire_core.proofs.retiring.move_held.Goals as goal
+use Rattle.retire_core.proofs.retiring.move_held.Goals.{In_ok-test_held}
 
 abbrev failing : RetireFault → Answer (Unit {0})
 failing why = Err why
 
 abbrev done : Answer (Unit {0})
 done = Ok tt
+
+-- both vaults open and are clean, and the target holds the source
+module _ (g : Over) (c : In_ok-test_held g) where
+  held_passed : IfSeen (g.F.Folder.told c.args.folder.now) (λ v. TestsHeld c.args.journal.now.names c.args.journal.now.source c.args.journal.now.target c.args.source_pass.now c.args.target_pass.now v done)
+  held_passed v seen =
+      let names = c.args.journal.now.names in
+      let from = c.args.journal.now.source in
+      let to = c.args.journal.now.target in
+      let pass = c.args.source_pass.now in
+      let pass_too = c.args.target_pass.now in
+      let sides = c.in_ok-sides.sides in
+      passed_is Failed NoMemory tt (TestsHeld names from to pass pass_too v done)
+      (both_opened names from to pass pass_too v sides.source sides.target done c.in_ok-sides.ensures.source c.in_ok-sides.ensures.target
+      (c.in_ok-sides.ensures.opens_source v seen) (c.in_ok-sides.ensures.opens_target v seen)
+      (subst (λ n. Unless done (TestsVaults n sides.source sides.target v done)) c.in_ok-sides.ensures.names
+      (c.in_ok-test_held.ensures.cause v (subst (λ t. IsSeen t v) (sym c.load_both.ensures.told) seen))))
 
 pub returns-in_err-sides-clause-guard : goal.returns-in_err-sides-clause-guard
 returns-in_err-sides-clause-guard g c = λ migration at_source at_work. done_same migration (g.F.Folder.told c.args.folder.now) (g.F.Folder.told c.load_both.new.folder) c.load_both.ensures.told
@@ -120,18 +137,8 @@ returns-in_err-test_held-clause-cause g c v seen =
 
 pub returns-clause-cause : goal.returns-clause-cause
 returns-clause-cause g c v seen =
-    let names = c.args.journal.now.names in
-    let from = c.args.journal.now.source in
-    let to = c.args.journal.now.target in
-    let pass = c.args.source_pass.now in
-    let pass_too = c.args.target_pass.now in
-    let sides = c.in_ok-sides.sides in
-    ends (TestsHeld names from to pass pass_too v) c.move_source.result c.move_source.ensures.fails
-    (passed_is Failed NoMemory tt (TestsHeld names from to pass pass_too v (Ok tt))
-    (both_opened names from to pass pass_too v sides.source sides.target done c.in_ok-sides.ensures.source c.in_ok-sides.ensures.target
-    (c.in_ok-sides.ensures.opens_source v seen) (c.in_ok-sides.ensures.opens_target v seen)
-    (subst (λ n. Unless done (TestsVaults n sides.source sides.target v done)) c.in_ok-sides.ensures.names
-    (c.in_ok-test_held.ensures.cause v (subst (λ t. IsSeen t v) (sym c.load_both.ensures.told) seen)))))
+    ends (TestsHeld c.args.journal.now.names c.args.journal.now.source c.args.journal.now.target c.args.source_pass.now c.args.target_pass.now v) c.move_source.result c.move_source.ensures.fails
+    (held_passed g (goal.at.returns-clause-cause g c).In_ok-test_held v seen)
 
 pub returns-clause-seen : goal.returns-clause-seen
 returns-clause-seen g c =
@@ -141,12 +148,10 @@ returns-clause-seen g c =
     (c.test_held.ensures.told ∙ c.load_both.ensures.told) c.move_source.ensures.seen
 
 pub returns-in_err-sides-clause-tested : goal.returns-in_err-sides-clause-tested
-returns-in_err-sides-clause-tested g c = fault_as _ c.from_residual.result c.from_residual.ensures.1 (inr c.load_both.ensures.told)
+returns-in_err-sides-clause-tested g c = inl c.load_both.ensures.told
 
 pub returns-in_err-test_held-clause-tested : goal.returns-in_err-test_held-clause-tested
-returns-in_err-test_held-clause-tested g c =
-    fault_as _ c.from_residual-in_err-test_held.result c.from_residual-in_err-test_held.ensures.1 (inr (c.test_held.ensures.told ∙ c.load_both.ensures.told))
+returns-in_err-test_held-clause-tested g c = inl (c.test_held.ensures.told ∙ c.load_both.ensures.told)
 
 pub returns-clause-tested : goal.returns-clause-tested
-returns-clause-tested g c =
-    if_err_both IsOfFolder (λ fault. IsOfRemoval fault ⊎ (g.F.Folder.told c.move_source.new.folder ≡ g.F.Folder.told c.args.folder.now)) c.move_source.result (λ fault fails. inl (folder_removal fault fails)) c.move_source.ensures.fails
+returns-clause-tested g c = inr (held_passed g (goal.at.returns-clause-tested g c).In_ok-test_held)

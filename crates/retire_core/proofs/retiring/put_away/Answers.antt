@@ -1,12 +1,12 @@
 use denote.Enum.Bare.{same_true, sameb}
 use Rattle.move_journal.specs.Reading.{StandsIn}
-use Rattle.std.proofs.Common.{rules, true, false, ap, ◌≡◌, ◌≢◌, ◌∙◌, arith, subst, sym, inl, inr, refl, ◌⊎◌}
+use Rattle.std.proofs.Common.{rules, true, false, ap, ◌≡◌, ◌≢◌, ◌∙◌, arith, subst, sym, inl, inr, refl, Ok}
 use Rattle.folder_spec.specs.Seen.{IfSeen, IsSeen, moved_view}
-use Rattle.folder_spec.specs.View.{View}
+use Rattle.folder_spec.specs.View.{NoEntry, View}
 use Rattle.folder_spec.specs.contracts.Kind.{the_type}
 use Rattle.folder_spec.specs.declared.Kind.TheVariants.{Missing}
 use Rattle.migration_spec.specs.Guard.{Migration, old_path}
-use Rattle.retire_core.proofs.Blaming.{blamed_kind, if_err_both}
+use Rattle.retire_core.proofs.Blaming.{blamed_kind}
 use Rattle.retire_core.proofs.Courses.{held_same}
 use Rattle.retire_core.proofs.Going.{rest_same}
 use Rattle.migration_spec.proofs.Tellings.{seen_before}
@@ -14,13 +14,25 @@ use Rattle.retire_core.proofs.Starts.{IsKnown, comes_by_done, comes_missing, mis
 use Rattle.retire_core.specs.Clearing.{IsGone, IsInOrder, MovesHeldOnly}
 use Rattle.retire_core.specs.Guarding.{ComesFromDone, ComesTo, KeepsDone}
 use Rattle.retire_core.specs.Retiring.{retiring_by}
-use Rattle.migration_sides.proofs.Chains.{fault_as, refused_as}
+use Rattle.migration_sides.proofs.Chains.{fault_as, passed_is, refused_as}
 use Rattle.migration_sides.proofs.Told.{folder_unless}
+use Rattle.migration_sides.proofs.Unchanged.{tested_on}
 use Rattle.retire_core.proofs.Causing.{away_none, away_there, is_free, not_free}
-use Rattle.retire_core.specs.Causes.{TestsAway, Unless, moved_away}
-use Rattle.retire_core.specs.Faults.{of_folder, IsOfRemoval}
+use Rattle.retire_core.specs.Causes.{TestsAway, TestsFree, TestsHeld, Unless, moved_away}
+use Rattle.retire_core.specs.Faults.{of_folder}
+use Rattle.retire_core.specs.declared.fault.RetireFault.TheVariants.{Failed, NoMemory}
+use Rattle.retire_core.proofs.retiring.put_away.Given.{Over}
 use Rattle.retire_core.proofs.retiring.put_away.Goals as goal
+use Rattle.retire_core.proofs.retiring.put_away.Goals.{In_ok-test_free}
 use Rattle.folder_spec.proofs.Seen.{one_view}
+
+-- the source is there
+module _ (g : Over) (c : In_ok-test_free g) where
+  still_there : IfSeen (g.F.Folder.told c.args.folder.now) (λ v. v c.args.journal.now.source ≢ NoEntry)
+  still_there v seen =
+      let kind = c.in_ok-kind.field-0 in
+      let isnt : kind ≢ Missing = (λ is. let equal : false ≡ true = sym c.if-eq.false ∙ c.eq.ensures ∙ ap (λ k. sameb the_type k Missing) is in cc equal) in
+      there_by_kind (g.F.Folder.told c.args.folder.now) c.args.journal.now.source kind c.in_ok-kind.ensures.answer isnt v seen
 
 pub returns-in_err-kind-clause-guard : goal.returns-in_err-kind-clause-guard
 returns-in_err-kind-clause-guard g c = λ migration at_work. rest_same migration (g.F.Folder.told c.args.folder.now) (g.F.Folder.told c.kind.new.self) c.kind.ensures.told
@@ -129,14 +141,8 @@ returns-in_err-test_free-clause-cause g c v seen =
 
 pub returns-clause-cause : goal.returns-clause-cause
 returns-clause-cause g c v seen =
-    let work = c.args.work.now in
-    let pass = c.args.source_pass.now in
-    let pass_too = c.args.target_pass.now in
-    let journal = c.args.journal.now in
-    let kind = c.in_ok-kind.field-0 in
-    let isnt : kind ≢ Missing = (λ is. let equal : false ≡ true = sym c.if-eq.false ∙ c.eq.ensures ∙ ap (λ k. sameb the_type k Missing) is in cc equal) in
     let once = subst (λ t. IsSeen t v) (sym c.kind.ensures.told) seen in
-    is_free work pass pass_too journal v (there_by_kind (g.F.Folder.told c.args.folder.now) journal.source kind c.in_ok-kind.ensures.answer isnt v seen) c.move_held.result (c.in_ok-test_free.ensures.cause v once)
+    is_free c.args.work.now c.args.source_pass.now c.args.target_pass.now c.args.journal.now v (still_there g (goal.at.returns-clause-cause g c).In_ok-test_free v seen) c.move_held.result (c.in_ok-test_free.ensures.cause v once)
     (c.move_held.ensures.cause v (subst (λ t. IsSeen t v) (sym c.test_free.ensures.told) once))
 
 pub returns-clause-seen : goal.returns-clause-seen
@@ -147,22 +153,24 @@ returns-clause-seen g c =
     let same = c.test_free.ensures.told ∙ c.kind.ensures.told in
     let source = c.args.journal.now.source in
     let work = c.args.work.now in
-    let kind = c.in_ok-kind.field-0 in
-    let isnt : kind ≢ Missing = (λ is. let equal : false ≡ true = sym c.if-eq.false ∙ c.eq.ensures ∙ ap (λ k. sameb the_type k Missing) is in cc equal) in
     on_ok_more ((v w : View) → IsSeen t2 v → IsSeen t3 w → w ≡ moved_view v source (old_path work)) ((v w : View) → IsSeen t0 v → IsSeen t3 w → w ≡ moved_away (v source) source work v) c.move_held.result
-    (λ moved v w seen now. moved v w (subst (λ t. IsSeen t v) (sym same) seen) now ∙ away_there source work v (v source) (there_by_kind t0 source kind c.in_ok-kind.ensures.answer isnt v seen)) c.move_held.ensures.seen
+    (λ moved v w seen now. moved v w (subst (λ t. IsSeen t v) (sym same) seen) now ∙ away_there source work v (v source) (still_there g (goal.at.returns-clause-seen g c).In_ok-test_free v seen)) c.move_held.ensures.seen
 
 pub returns-in_err-kind-clause-tested : goal.returns-in_err-kind-clause-tested
-returns-in_err-kind-clause-tested g c = fault_as _ c.from_residual.result c.from_residual.ensures.1 (inr c.kind.ensures.told)
+returns-in_err-kind-clause-tested g c = inl c.kind.ensures.told
 
 pub returns-in_err-test_free-clause-tested : goal.returns-in_err-test_free-clause-tested
-returns-in_err-test_free-clause-tested g c =
-    fault_as _ c.from_residual-in_err-test_free.result c.from_residual-in_err-test_free.ensures.1 (inr (c.test_free.ensures.told ∙ c.kind.ensures.told))
+returns-in_err-test_free-clause-tested g c = inl (c.test_free.ensures.told ∙ c.kind.ensures.told)
 
 pub returns-clause-tested : goal.returns-clause-tested
 returns-clause-tested g c =
-    let t0 = g.F.Folder.told c.args.folder.now in
-    let t2 = g.F.Folder.told c.test_free.new.folder in
-    let t3 = g.F.Folder.told c.move_held.new.folder in
-    if_err_both (λ fault. IsOfRemoval fault ⊎ (t3 ≡ t2)) (λ fault. IsOfRemoval fault ⊎ (t3 ≡ t0)) c.move_held.result
-    (λ fault h. elim h [ inl removal ↦ inl removal | inr same ↦ inr (same ∙ c.test_free.ensures.told ∙ c.kind.ensures.told) ]) c.move_held.ensures.tested
+    let work = c.args.work.now in
+    let journal = c.args.journal.now in
+    let pass = c.args.source_pass.now in
+    let pass_too = c.args.target_pass.now in
+    tested_on (g.F.Folder.told c.args.folder.now) (g.F.Folder.told c.test_free.new.folder) (g.F.Folder.told c.move_held.new.folder)
+    (λ v. TestsHeld journal.names journal.source journal.target pass pass_too v (Ok tt)) c.move_held.ensures.tested (λ v. TestsAway work pass pass_too journal v (Ok tt)) (c.test_free.ensures.told ∙ c.kind.ensures.told)
+    (λ v seen held. inr (
+      still_there g (goal.at.returns-clause-tested g c).In_ok-test_free v seen,
+      (Ok tt, passed_is Failed NoMemory tt (TestsFree work v (Ok tt)) (c.in_ok-test_free.ensures.cause v (subst (λ t. IsSeen t v) (sym c.kind.ensures.told) seen)), held),
+    ))

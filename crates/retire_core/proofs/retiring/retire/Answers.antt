@@ -1,17 +1,15 @@
-use Rattle.std.proofs.Common.{subst, sym, refl, inl, inr, ◌⊎◌, ◌≡◌}
-use Rattle.retire_core.specs.Faults.{of_folder, IsOfRemoval}
+use Rattle.std.proofs.Common.{subst, sym, refl, inl, inr}
+use Rattle.retire_core.specs.Faults.{of_folder}
 use Rattle.retire_core.proofs.Courses.{removes_settled, retired_earlier, settle_removes, settle_touches, touches_then, settle_goes}
 use Rattle.retire_core.specs.Retiring.{retiring_by}
 use Rattle.migration_sides.proofs.Chains.{fault_as, refused_as, unless_met}
 use Rattle.migration_sides.proofs.Told.{folder_unless}
 use Rattle.retire_core.proofs.Causing.{folder_fails}
-use Rattle.retire_core.specs.Causes.{Retires, Unless, IsOfFolder}
+use Rattle.retire_core.specs.Causes.{PassesTests, Retires, Unless, IsOfFolder}
 use Rattle.retire_core.proofs.retiring.retire.Goals as goal
 use Rattle.migration_spec.proofs.Tellings.{folders_of}
 use Rattle.migration_spec.proofs.Settling.{settle_fell, settle_seen}
-use Rattle.migration_sides.proofs.Unchanged.{unchanged, unchanged_on, unchanged_settled}
-use Rattle.migration_sides.specs.Unchanged.{ChangesNothing}
-use Rattle.retire_core.proofs.Blaming.{if_err_both}
+use Rattle.migration_sides.proofs.Unchanged.{tested_settled, unchanged_settled}
 use Rattle.retire_core.specs.declared.fault.RetireFault.TheVariants.{Failed, NoMemory}
 
 pub returns-in_err-settle-clause-guard : goal.returns-in_err-settle-clause-guard
@@ -75,28 +73,12 @@ returns-clause-completes g c = λ migration v seen at_work opened can.
     (subst (λ w. Retires w c.args.source_pass.now c.args.target_pass.now v c.retire_settled.result) (sym at_work) tested)) cause
 
 pub returns-in_err-settle-clause-tested : goal.returns-in_err-settle-clause-tested
-returns-in_err-settle-clause-tested g c =
-    fault_as _ c.from_residual.result c.from_residual.ensures.1 (inr (unchanged_settled (g.F.Folder.told c.args.folder.now) (g.F.Folder.told c.settle.new.self) c.settle.result c.settle.ensures.changes))
-
-pub returns-in_err-settle-clause-unread : goal.returns-in_err-settle-clause-unread
-returns-in_err-settle-clause-unread g c = λ v seen none.
-    unchanged_settled (g.F.Folder.told c.args.folder.now) (g.F.Folder.told c.settle.new.self) c.settle.result c.settle.ensures.changes
+returns-in_err-settle-clause-tested g c = inl (unchanged_settled (g.F.Folder.told c.args.folder.now) (g.F.Folder.told c.settle.new.self) c.settle.result c.settle.ensures.changes)
 
 pub returns-clause-tested : goal.returns-clause-tested
 returns-clause-tested g c =
     let t0 = g.F.Folder.told c.args.folder.now in
     let t1 = g.F.Folder.told c.settle.new.self in
     let t2 = g.F.Folder.told c.retire_settled.new.folder in
-    if_err_both (λ fault. IsOfRemoval fault ⊎ (t2 ≡ t1)) (λ fault. IsOfRemoval fault ⊎ ChangesNothing t0 t2) c.retire_settled.result
-    (λ fault h. elim h [
-      | inl removal ↦ inl removal
-      | inr same ↦ inr (unchanged_on t0 t1 t2 (unchanged_settled t0 t1 c.settle.result c.settle.ensures.changes) (unchanged t1 t2 same))
-    ]) c.retire_settled.ensures.tested
-
-pub returns-clause-unread : goal.returns-clause-unread
-returns-clause-unread g c = λ v seen none.
-    let t0 = g.F.Folder.told c.args.folder.now in
-    let t1 = g.F.Folder.told c.settle.new.self in
-    let t2 = g.F.Folder.told c.retire_settled.new.folder in
-    unchanged_on t0 t1 t2 (unchanged_settled t0 t1 c.settle.result c.settle.ensures.changes)
-    (unchanged t1 t2 (c.retire_settled.ensures.unread v (settle_seen t0 t1 c.in_ok-settle.field-0 c.in_ok-settle.ensures.changes v seen) none))
+    tested_settled t0 t1 t2 (λ v. PassesTests c.args.work.now c.args.source_pass.now c.args.target_pass.now v) c.retire_settled.ensures.tested
+    (unchanged_settled t0 t1 c.settle.result c.settle.ensures.changes) (settle_seen t0 t1 c.in_ok-settle.field-0 c.in_ok-settle.ensures.changes)

@@ -1,18 +1,22 @@
-use Rattle.std.proofs.Common.{◌≤◌, arith, ◌∙◌, codes, subst, sym, ◌≡◌, ◌⊎◌, inl, inr}
+use Rattle.std.proofs.Common.{◌≤◌, arith, ◌∙◌, codes, subst, sym, inl, Ok}
 use Rattle.folder_spec.specs.Seen.{IsSeen}
 use Rattle.move_journal.specs.declared.journal.Journal.{Journal}
 use Rattle.move_journal.specs.Reading.{StandsIn}
 use Rattle.move_journal.proofs.Standing.{not_missing}
 use Rattle.port_model.specs.Counts.{CountRose}
 use Rattle.retire_core.proofs.Blaming.{blamed_later, blamed_step, if_err_both, later_own}
-use Rattle.retire_core.specs.Faults.{Blamed, IsLaterFault, IsRetireFault, of_step, IsOfRemoval}
+use Rattle.retire_core.specs.Faults.{Blamed, IsLaterFault, IsRetireFault, of_step}
 use Rattle.retire_core.proofs.Courses.{in_order, removes_same, retired_by, touches_same}
 use Rattle.retire_core.proofs.Going.{rest_same}
 use Rattle.retire_core.specs.Guarding.{KeepsFromRest}
 use Rattle.retire_core.specs.Retiring.{RemovesOnly, TouchesOnly, retiring_by}
-use Rattle.migration_sides.proofs.Chains.{fault_as, refused_as}
+use Rattle.migration_sides.specs.Causes.{TestsApart}
+use Rattle.migration_sides.specs.declared.fault.StepFault.TheVariants as steps
+use Rattle.migration_sides.proofs.Chains.{fault_as, passed_is, refused_as}
+use Rattle.migration_sides.proofs.Unchanged.{tested_on}
 use Rattle.retire_core.proofs.Causing.{foreign, is_told, not_done, overlapping}
-use Rattle.retire_core.specs.Causes.{Retires, Unless}
+use Rattle.retire_core.specs.Causes.{PassesTests, ReadsDone, Retires, TestsAway, Unless}
+use Rattle.retire_core.specs.declared.fault.RetireFault.TheVariants.{Failed, NoMemory}
 use Rattle.retire_core.proofs.retiring.retire_settled.Goals as goal
 use Rattle.migration_spec.proofs.Tellings.{folders_of}
 
@@ -145,31 +149,26 @@ returns-clause-cause g c v seen =
     (c.in_ok-look_again.ensures.answer v read) (c.retire_told.ensures.cause v (subst (λ t. IsSeen t v) (sym c.look_again.ensures.told) read))
 
 pub returns-in_err-journal-clause-tested : goal.returns-in_err-journal-clause-tested
-returns-in_err-journal-clause-tested g c = fault_as _ c.from_residual.result c.from_residual.ensures.1 (inr c.read_done.ensures.told)
-
-pub returns-in_err-journal-clause-unread : goal.returns-in_err-journal-clause-unread
-returns-in_err-journal-clause-unread g c = λ v seen none. c.read_done.ensures.told
+returns-in_err-journal-clause-tested g c = inl c.read_done.ensures.told
 
 pub returns-in_err-test_apart-clause-tested : goal.returns-in_err-test_apart-clause-tested
-returns-in_err-test_apart-clause-tested g c = fault_as _ c.from_residual-in_err-test_apart.result c.from_residual-in_err-test_apart.ensures.1 (inr c.read_done.ensures.told)
-
-pub returns-in_err-test_apart-clause-unread : goal.returns-in_err-test_apart-clause-unread
-returns-in_err-test_apart-clause-unread g c = λ v seen none. c.read_done.ensures.told
+returns-in_err-test_apart-clause-tested g c = inl c.read_done.ensures.told
 
 pub returns-in_err-look_again-clause-tested : goal.returns-in_err-look_again-clause-tested
-returns-in_err-look_again-clause-tested g c =
-    fault_as _ c.from_residual-in_err-look_again.result c.from_residual-in_err-look_again.ensures.1 (inr (c.look_again.ensures.told ∙ c.read_done.ensures.told))
-
-pub returns-in_err-look_again-clause-unread : goal.returns-in_err-look_again-clause-unread
-returns-in_err-look_again-clause-unread g c = λ v seen none. c.look_again.ensures.told ∙ c.read_done.ensures.told
+returns-in_err-look_again-clause-tested g c = inl (c.look_again.ensures.told ∙ c.read_done.ensures.told)
 
 pub returns-clause-tested : goal.returns-clause-tested
 returns-clause-tested g c =
-    let t0 = g.F.Folder.told c.args.folder.now in
-    let t2 = g.F.Folder.told c.look_again.new.folder in
-    let t3 = g.F.Folder.told c.retire_told.new.folder in
-    if_err_both (λ fault. IsOfRemoval fault ⊎ (t3 ≡ t2)) (λ fault. IsOfRemoval fault ⊎ (t3 ≡ t0)) c.retire_told.result
-    (λ fault h. elim h [ inl removal ↦ inl removal | inr same ↦ inr (same ∙ c.look_again.ensures.told ∙ c.read_done.ensures.told) ]) c.retire_told.ensures.tested
-
-pub returns-clause-unread : goal.returns-clause-unread
-returns-clause-unread g c = λ v seen none. absurd (none c.in_ok-journal.journal c.in_ok-journal.ensures.journal (c.in_ok-journal.ensures.stands v seen))
+    let work = c.args.work.now in
+    let pass = c.args.source_pass.now in
+    let pass_too = c.args.target_pass.now in
+    let journal = c.in_ok-journal.journal in
+    tested_on (g.F.Folder.told c.args.folder.now) (g.F.Folder.told c.look_again.new.folder) (g.F.Folder.told c.retire_told.new.folder)
+    (λ v. TestsAway work pass pass_too journal v (Ok tt)) c.retire_told.ensures.tested (λ v. PassesTests work pass pass_too v) (c.look_again.ensures.told ∙ c.read_done.ensures.told)
+    (λ v seen away. record {
+      journal = journal;
+      done = passed_is Failed NoMemory journal (ReadsDone work v (Ok journal)) (c.in_ok-journal.ensures.cause v seen);
+      apart = passed_is steps.Failed steps.NoMemory tt (TestsApart journal.source journal.target work (Ok tt)) c.in_ok-test_apart.ensures.cause;
+      entries = c.in_ok-look_again.ensures.answer v (subst (λ t. IsSeen t v) (sym c.read_done.ensures.told) seen);
+      away = away;
+    })

@@ -1,11 +1,21 @@
 use Rattle.retire_core.proofs.Courses.{gone_still, removes_cleared, removes_moved, rest_then, touches_cleared, touches_moved}
 use Rattle.retire_core.specs.Retiring.{retiring_by}
-use Rattle.migration_sides.proofs.Chains.{refused_as, fault_as}
+use Rattle.migration_sides.proofs.Chains.{passed_is, refused_as}
 use Rattle.retire_core.proofs.Causing.{is_retired, not_away, not_removed, removed_then}
-use Rattle.retire_core.specs.Causes.{RetiresTold, Unless}
-use Rattle.std.proofs.Common.{Err, Ok, inl}
+use Rattle.retire_core.specs.Causes.{RetiresTold, TestsAway, Unless}
+use Rattle.retire_core.specs.declared.fault.RetireFault.TheVariants.{Failed, NoMemory}
+use Rattle.folder_spec.specs.Seen.{IfSeen}
+use Rattle.std.proofs.Common.{Err, Ok, inr}
+use Rattle.retire_core.proofs.retiring.retire_told.Given.{Over}
 use Rattle.retire_core.proofs.retiring.retire_told.Goals as goal
+use Rattle.retire_core.proofs.retiring.retire_told.Goals.{In_ok-put_away}
 use Rattle.retire_core.proofs.Away.{not_base}
+
+-- the source is gone, or may be moved away
+module _ (g : Over) (c : In_ok-put_away g) where
+  put_away_passed : IfSeen (g.F.Folder.told c.args.folder.now) (λ v. TestsAway c.args.work.now c.args.source_pass.now c.args.target_pass.now c.args.journal.now v (Ok tt))
+  put_away_passed v seen =
+      passed_is Failed NoMemory tt (TestsAway c.args.work.now c.args.source_pass.now c.args.target_pass.now c.args.journal.now v (Ok tt)) (c.in_ok-put_away.ensures.cause v seen)
 
 pub returns-in_err-put_away-clause-touches : goal.returns-in_err-put_away-clause-touches
 returns-in_err-put_away-clause-touches g c =
@@ -84,7 +94,10 @@ returns-clause-cause g c v seen =
     c.in_ok-clear.ensures.cause v seen)
 
 pub returns-in_err-put_away-clause-tested : goal.returns-in_err-put_away-clause-tested
-returns-in_err-put_away-clause-tested g c = fault_as _ c.from_residual.result c.from_residual.ensures.1 c.in_err-put_away.ensures.tested
+returns-in_err-put_away-clause-tested g c = c.put_away.ensures.tested
 
 pub returns-in_err-clear-clause-tested : goal.returns-in_err-clear-clause-tested
-returns-in_err-clear-clause-tested g c = fault_as _ c.from_residual-in_err-clear.result c.from_residual-in_err-clear.ensures.1 (inl c.in_err-clear.ensures.refused)
+returns-in_err-clear-clause-tested g c = inr (put_away_passed g (goal.at.returns-in_err-clear-clause-tested g c).In_ok-put_away)
+
+pub returns-clause-tested : goal.returns-clause-tested
+returns-clause-tested g c = inr (put_away_passed g (goal.at.returns-clause-tested g c).In_ok-put_away)

@@ -12,6 +12,11 @@ const PAUSE: u64 = 250;
 // What brings a terminal back to the line's start and clears it.
 const CLEAR: &str = "\r\x1b[K";
 
+// What keeps a line that is longer than a terminal is wide from going on below, where it couldn't be cleared; and what ends that.
+const CUT: &str = "\x1b[?7l";
+
+const WRAP: &str = "\x1b[?7h";
+
 const MEGABYTE: u64 = 1_000_000;
 
 /// What a run has done since it began, and the line that shows it, where it is to be shown.
@@ -82,7 +87,7 @@ impl SignOfLife {
         let written = self.written / MEGABYTE;
         let seconds = since.as_secs();
         format!(in alloc;
-            "{CLEAR}{placed} files placed, {read} MB read, {written} MB written, {seconds} s"
+            "{CLEAR}{CUT}{placed} files placed, {read} MB read, {written} MB written, {seconds} s{WRAP}"
         )
     }
 

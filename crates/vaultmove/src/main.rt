@@ -38,7 +38,7 @@ fn status_of(rt: &HostRuntime, words: &[String], folder: &mut HostFolder) -> Res
     claim(rt.alloc(), words, folder)?;
     let terminal = rt.stderr().is_terminal();
     let shared = terminal && rt.stdout().is_terminal();
-    let shows = terminal && !(shared && prints_as_it_goes(words));
+    let shows = terminal && !(shared && prints_as_it_goes(words)) && clears_lines(rt);
     if shows {
         folder.show_life();
     }
@@ -48,6 +48,14 @@ fn status_of(rt: &HostRuntime, words: &[String], folder: &mut HostFolder) -> Res
         tell(rt, folder);
     }
     Ok(status)
+}
+
+// Whether a line on the terminal can be cleared again, as not on one that is named so.
+fn clears_lines(rt: &HostRuntime) -> bool {
+    match env::var(rt, "TERM") {
+        Ok(name) => name.as_str() != "dumb",
+        Err(_) => true,
+    }
 }
 
 // Runs the command over the folder. Where the folder shows on the terminal how far it has come, its line is wiped before anything else

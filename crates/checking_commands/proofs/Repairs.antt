@@ -18,7 +18,8 @@ use Rattle.vault_spec.specs.Vault.{Vault, Either, format_of}
 use Rattle.vault_walk.specs.Survey.{HasTooMany}
 use Rattle.vault_walk.specs.Surveyed.{IsOnlyTooDeep}
 use Rattle.vault_check.specs.Answers.{IsRepairFault}
-use Rattle.vault_check.specs.Repairing.{AreApart, AreMoved, IsRepairing, RepairsAt}
+use Rattle.vault_check.specs.Repairing.{AreMoved, IsRepairing, RepairsAt}
+use Rattle.folder_spec.specs.Apart.{AreApart}
 use Rattle.vault_check.specs.declared.fault.CheckFault.{CheckFault}
 use Rattle.vault_check.specs.declared.fault.CheckFault.TheVariants as check
 use Rattle.checking_commands.specs.Faults.{of_check}
@@ -46,7 +47,7 @@ none_of (Some x) is = cc
 pub apart_by : (one other : Path) → overlap one other ≡ false → AreApart one other
 apart_by one other is =
     let parts = or_parts (is_some (below one other)) (is_some (below other one)) is in
-    record { apart = none_of (below one other) parts.0; beside = none_of (below other one) parts.1 }
+    record { one = none_of (below one other) parts.0; other = none_of (below other one) parts.1 }
 
 missing_then : (at : Path) (there : Found) (answer : Answer) (P Q : Type 0) → (P → Q) → OfMissing at there answer P → OfMissing at there answer Q
 missing_then at NoEntry answer P Q f x = f x

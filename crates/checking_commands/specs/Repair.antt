@@ -16,7 +16,8 @@ use Rattle.vault_spec.specs.Moving.{IsStray}
 use Rattle.vault_spec.specs.Vault.{Vault, Either, format_of}
 use Rattle.vault_walk.specs.Survey.{HasTooMany}
 use Rattle.vault_walk.specs.Surveyed.{IsOnlyTooDeep, IsWithin}
-use Rattle.vault_check.specs.Repairing.{AreApart, AreMoved, IsRepairing, RepairsAt}
+use Rattle.vault_check.specs.Repairing.{AreMoved, IsRepairing, RepairsAt}
+use Rattle.folder_spec.specs.Apart.{AreApart}
 use Rattle.command_opening.specs.Opening.{Opens, OfOpened}
 use Rattle.command_opening.specs.Places.{OfFree, RefusesOverlap, overlap}
 use Rattle.command_opening.specs.Tests.{is_of_moving}

@@ -11,7 +11,7 @@ use Rattle.folder_spec.specs.View.{View}
 use Rattle.migrate_core.specs.Completing.{CanBegin, IsOfChance}
 use Rattle.migrate_core.specs.Faults.{Blamed, is_of_begin}
 use Rattle.migrate_core.specs.Limits.{HasSmallContents, IsOfLimit, PassesInTree, PassesLimit}
-use Rattle.migrate_core.specs.Copying.{tree_in}
+use Rattle.migration_spec.specs.Guard.{tree_at, AreOpenedBy, Migration}
 use Rattle.migrate_core.specs.Moving.{MovesOnly, OnlyBrings}
 use Rattle.migrate_core.specs.Sharing.{IsOfTaken, SharesInTree}
 use Rattle.migrate_core.specs.Sides.{IsAsked}
@@ -22,7 +22,6 @@ use Rattle.migrate_core.specs.declared.placing.Done.{Done}
 use Rattle.migration_sides.specs.Sides.{opened_in}
 use Rattle.port_model.specs.Counts.{CountRose}
 use Rattle.port_model.specs.Draws.{ByteStream}
-use Rattle.migration_spec.specs.Guard.{AreOpenedBy, Migration}
 use Rattle.tree_match.specs.declared.answer.MatchFault.TheVariants as match
 use Rattle.vault_read.specs.Laws.{HasOwnFolders, HaveOneAnswer}
 use Rattle.vault_spec.specs.Opened.{OpenedVault}
@@ -44,7 +43,7 @@ use Rattle.demonstration.proofs.SharedPlaces.{WalksStay, leg_shares}
 use Rattle.demonstration.proofs.Movable.{AreMovable, PlansTell, are_opened, can_begin, is_asked, migration_of, small_contents}
 
 abbrev pub SmallPass : Type 0
-SmallPass = (from to : OpenedVault) (v : View) (at : Path) → HasOwnFolders from.vault (under from.root v) → HasSmallContents (tree_in from v) → ¬ PassesLimit Same from to v at
+SmallPass = (from to : OpenedVault) (v : View) (at : Path) → HasOwnFolders from.vault (under from.root v) → HasSmallContents (tree_at from v) → ¬ PassesLimit Same from to v at
 
 -- what `begin` says of the fault with which it stops, between these roots
 pub record StopsAt (from to work : Path) (fault : MoveFault) (f f' r r' : ℕ) (s s' : Option ByteStream) (t t' : Option Told) : Type 0 where
@@ -70,7 +69,7 @@ module _ (alike : AreAlike) (one : HaveOneAnswer) (laws : AreMovable) (plans : P
   no_limit count (Some a) (Some b) sound stops sees at is =
       passes (opened_in from tree.source) (opened_in (target_of leg) tree.target) (seen b.state) at
       (subst (λ x. HasOwnFolders x (under from (seen b.state))) vault (own_of_good there.items.vault from (seen b.state) there.good))
-      (subst (λ x. HasSmallContents (tree_in (opened_in from x) (seen b.state))) vault (small_contents laws there.items.vault from sees.seed count (seen b.state) there.good there.items.items))
+      (subst (λ x. HasSmallContents (tree_at (opened_in from x) (seen b.state))) vault (small_contents laws there.items.vault from sees.seed count (seen b.state) there.good there.items.items))
       (tree.passes (seen b.state) refl)
     where
       from : Path

@@ -14,7 +14,7 @@ use Rattle.folder_spec.specs.View.{FileOf, Folder, NoEntry, View, kind_found}
 use Rattle.folder_spec.specs.declared.Kind.TheVariants as kinds
 use Rattle.folder_spec.proofs.Paths.{begins_or_not, below-append}
 use Rattle.migrate_core.specs.Completing.{CanBegin}
-use Rattle.migrate_core.specs.Copying.{tree_in}
+use Rattle.migration_spec.specs.Guard.{tree_at, AreOpenedBy, Done, IsSeparate, IsWork, Migration, kinds_in, old_path}
 use Rattle.migrate_core.specs.Limits.{HasSmallContents, IsSmall}
 use Rattle.migrate_core.specs.Moved.{IsTidyWork}
 use Rattle.migrate_core.specs.Sides.{AreTold, IsAsked}
@@ -24,7 +24,6 @@ use Rattle.plain_tree.specs.Names as plain
 use Rattle.plain_tree.specs.declared.name_map.NameMap.TheVariants.{Same}
 use Rattle.retire_core.specs.Completing.{CanRetire, KeepsLimits}
 use Rattle.tree_match.specs.Comparing.{content_at}
-use Rattle.migration_spec.specs.Guard.{AreOpenedBy, Done, IsSeparate, IsWork, Migration, kinds_in, old_path}
 use Rattle.mapped_trees.specs.Plans.{IsPlanOf}
 use Rattle.mapped_trees.specs.Trees.{AllowsMapped, AllowsTree, IsWhole, StaysApart}
 use Rattle.tree_match.specs.Trees.{IsWalkOf, Side}
@@ -55,7 +54,7 @@ pub record AreMovable : Type 0 where
   pub allowed : (f : Format) (seed count : ℕ) (t : Tree) → HasItems seed count t → (path : plain.Path) (name : List ℕ) → t path ≢ NoItem → Contains path name → Allows f name
   pub short : (seed count : ℕ) (t : Tree) → HasItems seed count t → (path : plain.Path) → path ≢ [] → t path ≢ NoItem → (t path ≡ Directory) ⊎ ((content : List ℕ) × (t path ≡ Content content) × (length content ≤ 70000))
   pub fits : (vault : Vault) (v : View) (seed count : ℕ) → count ≤ 2000 → HasItems seed count (tree (format_of vault) v) → walks.IsWithin (format_of vault) v
-  pub whole : (a : OpenedVault) (v : View) (path : plain.Path) (at : Path) → HasSmallContents (tree_in a v) → standing (format_of a.vault) (under a.root v) path ≡ File at
+  pub whole : (a : OpenedVault) (v : View) (path : plain.Path) (at : Path) → HasSmallContents (tree_at a v) → standing (format_of a.vault) (under a.root v) path ≡ File at
       → (content_at (format_of a.vault).content v (a.root ++ at)).ending ≡ Whole
 
 -- a name that stays is allowed
@@ -82,7 +81,7 @@ small_or_none (Content bytes) small = small (λ none. cc none)
 small_or_none (opens.Broken chunks fault) small = small (λ none. cc none)
 
 pub small_contents : AreMovable → (vault : Vault) (root : Path) (seed count : ℕ) (v : View) → ShowsVault (format_of vault) root v → HasItems seed count (tree (format_of vault) (under root v))
-    → HasSmallContents (tree_in (opened_in root vault) v)
+    → HasSmallContents (tree_at (opened_in root vault) v)
 small_contents laws vault root seed count v good items = by
   where
     by : (path : plain.Path) → IsSmall (tree (format_of vault) (under root v) path)

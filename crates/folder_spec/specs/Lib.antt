@@ -1,4 +1,5 @@
 pub mod Path
+pub mod Apart
 pub mod State
 pub mod Event
 pub mod Image

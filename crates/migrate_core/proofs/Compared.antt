@@ -37,7 +37,8 @@ use Rattle.migrate_core.proofs.MappedItems.{TellsMapped, item_at, opens_from}
 use Rattle.migrate_core.proofs.Planned.{mapped_walk_of, walk_of}
 use Rattle.migrate_core.proofs.Within.{StandBehind, part_within}
 use Rattle.migrate_core.specs.Causes.{IsStop, nothing_stops}
-use Rattle.migrate_core.specs.Copying.{HasCopied, IsCopying, tree_in}
+use Rattle.migrate_core.specs.Copying.{HasCopied, IsCopying}
+use Rattle.migration_spec.specs.Guard.{tree_at}
 use Rattle.migrate_core.specs.Faults.{of_match, of_step}
 use Rattle.migrate_core.specs.Sides.{IsMappedWalk}
 use Rattle.tree_match.proofs.Passing.{MappedStayApart, TellsTree}
@@ -104,7 +105,7 @@ pub tells_mapped : TellsTree → MappedStayApart → (v : View) (rule : NameMap)
 tells_mapped tells apart v rule a walk = record { own = walk.own; plan = tells v (side_with a walk.own) walk.walk; mapped = walk.mapped; apart = apart v rule a walk }
 
 pub source_tells : TellsTree → MappedStayApart → (rule : NameMap) (from : OpenedVault) (items : List Planned) (t : Option Told) (v : View) → IsMappedWalk rule t from items → IsSeen t v → IsOrderly (format_of from.vault) (under from.root v)
-    → TellsMapped rule (tree_in from v) items
+    → TellsMapped rule (tree_at from v) items
 source_tells tells apart rule from items t v walked is orderly = tells_mapped tells apart v rule (side_of from items) (mapped_walk_of rule from items t v walked is orderly)
 
 pub copied_within : StandBelow → StandBehind → FilesAreThere → (rule : NameMap) (from to : OpenedVault) (v : View) → IsCopying rule from to v → IsWithin (format_of to.vault) (under to.root v)
@@ -116,15 +117,15 @@ pub copied_matches : TellsTree → MappedStayApart → OneTreeMatches → (rule 
 copied_matches tells apart matches rule from to items others t u v walked is walked_to is_to h =
     matches v rule (side_of from items) (side_of to others) (mapped_walk_of rule from items t v walked is h.copying.source.orderly) (walk_of to others u v walked_to is_to h.copying.target.orderly) held h.copying.part
   where
-    told : TellsMapped rule (tree_in from v) items
+    told : TellsMapped rule (tree_at from v) items
     told = source_tells tells apart rule from items t v walked is h.copying.source.orderly
 
-    held : IsHeldIn rule (tree_in from v) (tree_in to v)
+    held : IsHeldIn rule (tree_at from v) (tree_at to v)
     held path named there =
-        let x = item_at rule (tree_in from v) items path told named there in
-        let has : tree_in to v (mapped_path rule path) ≢ NoItem = subst (λ p. tree_in to v p ≢ NoItem) x.2 (h.has x.0 x.1) in
+        let x = item_at rule (tree_at from v) items path told named there in
+        let has : tree_at to v (mapped_path rule path) ≢ NoItem = subst (λ p. tree_at to v p ≢ NoItem) x.2 (h.has x.0 x.1) in
         let both = h.copying.part (mapped_path rule path) (not_root path named) has in
-        let same : tree_in from v path ≡ tree_in to v (mapped_path rule path) = opens_from rule (tree_in from v) path (tree_in to v (mapped_path rule path)) told.apart there has both.0 in
+        let same : tree_at from v path ≡ tree_at to v (mapped_path rule path) = opens_from rule (tree_at from v) path (tree_at to v (mapped_path rule path)) told.apart there has both.0 in
         (sym same, subst IsWhole (sym same) both.1)
       where
         not_root : (path : plain.Path) → path ≢ [] → mapped_path rule path ≢ []

@@ -13,7 +13,7 @@ use Rattle.folder_spec.specs.View.{View}
 use Rattle.plain_tree.specs.declared.NodeKind.TheVariants.{Dir, File}
 use Rattle.plain_tree.specs.declared.name_map.NameMap.{NameMap}
 use Rattle.port_model.specs.Draws.{ByteStream}
-use Rattle.migration_sides.specs.Sides.{AreSeparate}
+use Rattle.folder_spec.specs.Apart.{AreSeparate}
 use Rattle.migration_spec.proofs.Placing.{part_gains}
 use Rattle.mapped_trees.specs.Trees.{IsMappedItem, IsPartOf}
 use Rattle.tree_match.specs.Trees.{side_of}
@@ -33,7 +33,8 @@ use Rattle.content_writing.specs.Trees.{StaysGood, opens_as}
 use Rattle.migrate_core.proofs.Movings.{moves_to, seen_stays, source_apart}
 use Rattle.migrate_core.proofs.Placings.{no_answer}
 use Rattle.migrate_core.proofs.Planned.{DirectoriesOpen, FilesFit, FilesOpen, file_opens, mapped_walk_of, reader_of}
-use Rattle.migrate_core.specs.Copying.{Copies, CopiesOne, HasCopied, HasItem, IsCopying, tree_in}
+use Rattle.migrate_core.specs.Copying.{Copies, CopiesOne, HasCopied, HasItem, IsCopying}
+use Rattle.migration_spec.specs.Guard.{tree_at}
 use Rattle.migrate_core.specs.Moving.{MovesBeside}
 use Rattle.migrate_core.specs.Sides.{IsItemOf, StandsIn}
 use Rattle.migration_spec.proofs.Tellings.{AreSound}
@@ -62,7 +63,7 @@ some_item NewDirectory e = cc e
 some_item (NewFile content) e = cc e
 
 module _ (rule : NameMap) (from to : OpenedVault) (work : Path) (planned : Planned) (item : NewItem) (ending : Ending) (drawn : List ℕ) (t u : Option Told) (made : MakesAt New to work planned.path item ending drawn t u (Ok tt)) where
-  pub made_copies : (v w : View) → IsSeen t v → IsSeen u w → under from.root w ≡ under from.root v → (ending ≡ Whole → IsMappedItem rule (tree_in from v) planned.path (opens_as item)) → IsCopying rule from to v
+  pub made_copies : (v w : View) → IsSeen t v → IsSeen u w → under from.root w ≡ under from.root v → (ending ≡ Whole → IsMappedItem rule (tree_at from v) planned.path (opens_as item)) → IsCopying rule from to v
       → Copies rule from to planned v w
   made_copies v w is_v is_w same held k = elim (base_or_child planned.path) [
     | inl root ↦ no_answer (Copies rule from to planned v w) (Taken to.root) (Ok tt) (made.root root).2
@@ -73,19 +74,19 @@ module _ (rule : NameMap) (from to : OpenedVault) (work : Path) (planned : Plann
         by (subst (λ path. OpensWith (format_of to.vault) (under to.root v) (under to.root w) path (opens_as item)) (sym named.2) (ends.1 k.target.orderly)) (ends.2 k.target.clean k.target.orderly) (held (one.answer v is_v).1)
   ]
     where
-      by : OpensWith (format_of to.vault) (under to.root v) (under to.root w) planned.path (opens_as item) → StaysGood (format_of to.vault) (under to.root v) (under to.root w) → IsMappedItem rule (tree_in from v) planned.path (opens_as item)
+      by : OpensWith (format_of to.vault) (under to.root v) (under to.root w) planned.path (opens_as item) → StaysGood (format_of to.vault) (under to.root v) (under to.root w) → IsMappedItem rule (tree_at from v) planned.path (opens_as item)
           → Copies rule from to planned v w
       by gains stays is = record {
         copying = record {
           source = record { clean = subst (IsClean (format_of from.vault)) (sym same) k.source.clean; orderly = subst (IsOrderly (format_of from.vault)) (sym same) k.source.orderly };
           within = subst (IsWithin (format_of from.vault)) (sym same) k.within;
           target = record { clean = stays.clean; orderly = stays.orderly };
-          part = subst (λ x. IsPartOf rule (tree_in to w) (tree (format_of from.vault) x)) (sym same)
-              (part_gains rule (tree_in to v) (tree_in to w) (tree_in from v) planned.path item is gains.others gains.there k.part);
+          part = subst (λ x. IsPartOf rule (tree_at to w) (tree (format_of from.vault) x)) (sym same)
+              (part_gains rule (tree_at to v) (tree_at to w) (tree_at from v) planned.path item is gains.others gains.there k.part);
         };
         has = λ none. some_item item (sym gains.there ∙ none);
         keeps = λ path there none. elim (one_or_not path planned.path) [
-          | inl one ↦ some_item item (sym gains.there ∙ ap (tree_in to w) (sym one) ∙ none)
+          | inl one ↦ some_item item (sym gains.there ∙ ap (tree_at to w) (sym one) ∙ none)
           | inr other ↦ there (sym (gains.others path other.0) ∙ none)
         ];
         gains = λ path there. elim (one_or_not path planned.path) [
@@ -114,7 +115,7 @@ module _ (rule : NameMap) (from to : OpenedVault) (work : Path) (item : Planned)
       (λ whole.
       let shown : (a : Told) × (t ≡ Some a) × (v ≡ seen a.state) = told_of t is_v in
       let orderly : IsOrderly (format_of from.vault) (under from.root (seen shown.0.state)) = subst (λ x. IsOrderly (format_of from.vault) (under from.root x)) shown.2 k.source.orderly in
-      subst (λ x. IsMappedItem rule (tree_in from x) item.path (opens_as (NewFile content))) (sym shown.2)
+      subst (λ x. IsMappedItem rule (tree_at from x) item.path (opens_as (NewFile content))) (sym shown.2)
       (file_opens opens fits rule from t shown.0 item shown.1 of (mapped_walk_of rule from of.items t (seen shown.0.state) of.walked (subst (IsSeen t) shown.2 is_v) orderly) node content ending (told shown.0 shown.1) whole)) k
     where
       told_of : (t : Option Told) → IsSeen t v → (a : Told) × (t ≡ Some a) × (v ≡ seen a.state)
@@ -127,7 +128,7 @@ module _ (rule : NameMap) (from to : OpenedVault) (work : Path) (item : Planned)
 pub stands_copied : (rule : NameMap) (from to : OpenedVault) (there : List Planned) (item : Planned) (v w : View) → w ≡ v → StandsIn item there → HasCopied rule from to there v → Copies rule from to item v w
 stands_copied rule from to there item v w same stands h = subst (Copies rule from to item v) (sym same) (record {
   copying = h.copying;
-  has = subst (λ path. tree_in to v path ≢ NoItem) stands.2 (h.has stands.0 stands.1);
+  has = subst (λ path. tree_at to v path ≢ NoItem) stands.2 (h.has stands.0 stands.1);
   keeps = λ path is. is;
   gains = λ path is. inr is;
   tidy = λ is. is;

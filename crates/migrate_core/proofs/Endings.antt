@@ -11,7 +11,8 @@ use Rattle.folder_spec.specs.View.{View, FileOf, found}
 use Rattle.folder_spec.proofs.Tellings.{from_to_more}
 use Rattle.move_journal.proofs.Standing as standing
 use Rattle.move_journal.specs.Journal.{IsJournal}
-use Rattle.move_journal.specs.Reading.{journal_path, StandsIn}
+use Rattle.move_journal.specs.Reading.{StandsIn}
+use Rattle.work_folder.specs.Entries.{journal_path}
 use Rattle.move_journal.specs.Writing.{Writes, HasWritten}
 use Rattle.move_journal.specs.declared.journal.Journal.{Journal}
 use Rattle.move_journal.specs.declared.journal.Phase.TheVariants as phase
@@ -20,7 +21,8 @@ use Rattle.migration_spec.specs.Alone.{Progress, Unbegun, Begun, Finished, IsAlo
 use Rattle.tree_match.specs.Comparing.{Is}
 use Rattle.migration_spec.specs.Guard.{Migration, HoldsAll, HoldsSource, IsThere, Tells, tree_at}
 use Rattle.mapped_trees.specs.Trees.{HasNoBroken, IsHeldIn, IsMapped, IsPartOf, IsWhole, StaysApart}
-use Rattle.migration_sides.specs.Sides.{AreSeparate, IsWalked, opened_in}
+use Rattle.migration_sides.specs.Sides.{IsWalked, opened_in}
+use Rattle.folder_spec.specs.Apart.{AreSeparate}
 use Rattle.tree_match.specs.Trees.{Side, HoldsAllBy, AsSame, IsMappedWalkOf, IsWalkOf, match_of, side_of, tree_of}
 use Rattle.tree_match.specs.declared.answer.Match.TheVariants.{Same}
 use Rattle.vault_spec.specs.Opened.{OpenedVault}
@@ -37,7 +39,7 @@ use Rattle.migrate_core.proofs.MappedItems.{mapped_count}
 use Rattle.migrate_core.proofs.Movings.{mapped_walk, moves_to, source_beside, turned_over, under_stays}
 use Rattle.migrate_core.proofs.Planned.{SeenAlone, seen_of, source_held, source_mapped_walk, walk_of}
 use Rattle.migrate_core.proofs.SameItems.{same_length}
-use Rattle.migrate_core.specs.Copying.{StayGood, tree_in}
+use Rattle.migrate_core.specs.Copying.{StayGood}
 use Rattle.migrate_core.specs.Leading.{FinishesFrom, Goes, Leads, progress_of}
 use Rattle.vault_walk.specs.Surveyed.{IsPlanOf}
 use Rattle.migrate_core.specs.Limits.{EndsBy}
@@ -85,17 +87,17 @@ held_whole rule m t root held (name ∷ rest) = by (m (name ∷ rest)) refl
 
 module _ (held_in : HoldsHeld) (same_part : SameIsPart) (mapped : BothAreMapped) (rule : NameMap) (from to : OpenedVault) (items others : List Planned) (v : View) (walk : IsMappedWalkOf rule v (side_of from items)) (walk_to : IsWalkOf v (side_of to others))
     (same : match_of v (side_of from items) (side_of to others) ≡ Is Same) where
-  same_held : IsHeldIn rule (tree_in from v) (tree_in to v)
+  same_held : IsHeldIn rule (tree_at from v) (tree_at to v)
   same_held = held_in v rule (side_of from items) (side_of to others) walk walk_to (subst HoldsAllBy (sym same) AsSame)
 
   -- of two vaults that compare as the same the second has the mapped tree of the first
-  pub same_mapped : IsMapped rule (tree_in from v) (tree_in to v)
+  pub same_mapped : IsMapped rule (tree_at from v) (tree_at to v)
   same_mapped =
-      mapped rule (tree_in from v) (tree_in to v) (root_directory (format_of to.vault) (under to.root v) ∙ sym (root_directory (format_of from.vault) (under from.root v))) same_held
+      mapped rule (tree_at from v) (tree_at to v) (root_directory (format_of to.vault) (under to.root v) ∙ sym (root_directory (format_of from.vault) (under from.root v))) same_held
       (same_part v rule (side_of from items) (side_of to others) walk walk_to same)
 
-  pub same_whole : HasNoBroken (tree_in from v)
-  same_whole = held_whole rule (tree_in from v) (tree_in to v) (root_directory (format_of from.vault) (under from.root v)) same_held
+  pub same_whole : HasNoBroken (tree_at from v)
+  same_whole = held_whole rule (tree_at from v) (tree_at to v) (root_directory (format_of from.vault) (under from.root v)) same_held
 
 -- where the two vaults compare as the same, the target holds all that the source held
 pub holds_all : SeenAlone → MappedStayApart → HoldsHeld → SameIsPart → BothAreMapped → (g : Migration) (p : Progress) (t : Option Told) (a : Told) (items others : List Planned) → t ≡ Some a → IsAlone g p a.state
@@ -212,7 +214,7 @@ has_moved held_in same_part mapped from to work own items others journal (Some a
       target = subst (IsClean (format_of to.vault)) (sym to_same) (walked_target.clean w refl);
       trees = λ alone alone_target.
           subst (λ x. IsMapped journal.names (tree (format_of from.vault) (under from.root v)) (tree (format_of to.vault) x)) (sym to_same)
-          (subst (λ x. IsMapped journal.names (tree (format_of from.vault) x) (tree_in to w)) (sym from_same)
+          (subst (λ x. IsMapped journal.names (tree (format_of from.vault) x) (tree_at to w)) (sym from_same)
           (one_tree held_in same_part mapped journal.names from to items others (Some a) (mapped_walk journal.names (Some a) from own items moving) walked_target same w refl
           (subst (HasOwnFolders from.vault) from_same alone) (subst (HasOwnFolders to.vault) to_same alone_target)));
       items = λ alone.

@@ -32,7 +32,8 @@ use Rattle.vault_walk.specs.Survey.{IsOrdered}
 use Rattle.migrate_core.proofs.Endings.{root_directory}
 use Rattle.migrate_core.proofs.Fronts.{StandBelow, directory_above}
 use Rattle.migrate_core.proofs.MappedItems.{ComesFrom, MappedParts, TellsMapped, comes_from, item_at, mapped_parts, opens_from}
-use Rattle.migrate_core.specs.Copying.{Enters, HasCopied, tree_in}
+use Rattle.migrate_core.specs.Copying.{Enters, HasCopied}
+use Rattle.migration_spec.specs.Guard.{tree_at}
 use Rattle.migrate_core.proofs.Searched.{paths_total}
 
 -- ---- a directory that opens in an orderly vault
@@ -97,7 +98,7 @@ before items ordered x item j k in_j at_j in_k at_k less = elim (cases_order j k
 abbrev pub ParentsFirst : Type 0
 ParentsFirst = (p : plain.Path) (name : List ℕ) → path_cmp p (p ++ name ∷ []) ≡ Less
 
-pub next_enters : StandBelow → EnteredLeads → ParentsFirst → (rule : NameMap) (from to : OpenedVault) (there items : List Planned) (k : ℕ) (item : Planned) (v : View) → TellsMapped rule (tree_in from v) items
+pub next_enters : StandBelow → EnteredLeads → ParentsFirst → (rule : NameMap) (from to : OpenedVault) (there items : List Planned) (k : ℕ) (item : Planned) (v : View) → TellsMapped rule (tree_at from v) items
     → k < length items → item ≡ get_or items k item → HasCopied rule from to (there ++ take k items) v → Enters to item v
 next_enters below leads first rule from to there items k item v tells inside at copied front name is =
     let way : (dir : Directory) × Leads (format_of to.vault) (under to.root v) front dir = leads_to below (format_of to.vault) (under to.root v) copied.copying.target.orderly front (opens_there front is) in
@@ -106,20 +107,20 @@ next_enters below leads first rule from to there items k item v tells inside at 
     opens_no : opens.Directory ≢ NoItem
     opens_no e = cc e
 
-    opens_there : (front : plain.Path) → item.path ≡ front ++ name ∷ [] → tree_in to v front ≡ opens.Directory
+    opens_there : (front : plain.Path) → item.path ≡ front ++ name ∷ [] → tree_at to v front ≡ opens.Directory
     opens_there [] is = root_directory (format_of to.vault) (under to.root v)
     opens_there (a ∷ rest) is =
-        let source : ComesFrom rule (tree_in from v) item = comes_from rule (tree_in from v) items item tells (k, inside, sym at) in
+        let source : ComesFrom rule (tree_at from v) item = comes_from rule (tree_at from v) items item tells (k, inside, sym at) in
         let parts : MappedParts rule source.path (a ∷ rest) name = mapped_parts rule source.path (a ∷ rest) name (source.comes ∙ is) in
-        let directory : tree_in from v parts.own ≡ opens.Directory = directory_above below (format_of from.vault) (under from.root v) parts.own parts.last (subst (λ p. tree_in from v p ≢ NoItem) parts.is source.opens) in
-        let stands : tree_in from v parts.own ≢ NoItem = λ none. opens_no (sym directory ∙ none) in
-        let x = item_at rule (tree_in from v) items parts.own tells (not_root parts.own parts.maps) stands in
+        let directory : tree_at from v parts.own ≡ opens.Directory = directory_above below (format_of from.vault) (under from.root v) parts.own parts.last (subst (λ p. tree_at from v p ≢ NoItem) parts.is source.opens) in
+        let stands : tree_at from v parts.own ≢ NoItem = λ none. opens_no (sym directory ∙ none) in
+        let x = item_at rule (tree_at from v) items parts.own tells (not_root parts.own parts.maps) stands in
         let here : x.0.path ≡ a ∷ rest = x.2 ∙ parts.maps in
         let less : path_cmp x.0.path item.path ≡ Less = ap (λ p. path_cmp p item.path) here ∙ ap (path_cmp (a ∷ rest)) is ∙ first (a ∷ rest) name in
         let early : x.1.0 < k = before items tells.mapped.ordered x.0 item x.1.0 k x.1.1 x.1.2 inside at less in
-        let has : tree_in to v (a ∷ rest) ≢ NoItem = subst (λ p. tree_in to v p ≢ NoItem) here (copied.has x.0 (Contains-append_right there (take k items) x.0 (in_front items k x.1.0 x.0 early x.1.1 x.1.2))) in
-        sym (opens_from rule (tree_in from v) parts.own (tree_in to v (a ∷ rest)) tells.apart stands has
-        (subst (λ p. IsMappedItem rule (tree_in from v) p (tree_in to v (a ∷ rest))) (sym parts.maps) (copied.copying.part (a ∷ rest) (λ e. cc e) has).0)) ∙ directory
+        let has : tree_at to v (a ∷ rest) ≢ NoItem = subst (λ p. tree_at to v p ≢ NoItem) here (copied.has x.0 (Contains-append_right there (take k items) x.0 (in_front items k x.1.0 x.0 early x.1.1 x.1.2))) in
+        sym (opens_from rule (tree_at from v) parts.own (tree_at to v (a ∷ rest)) tells.apart stands has
+        (subst (λ p. IsMappedItem rule (tree_at from v) p (tree_at to v (a ∷ rest))) (sym parts.maps) (copied.copying.part (a ∷ rest) (λ e. cc e) has).0)) ∙ directory
       where
         not_root : (own : plain.Path) → mapped_path rule own ≡ a ∷ rest → own ≢ []
         not_root own maps root = let none : mapped_path rule [] ≡ a ∷ rest = ap (mapped_path rule) (sym root) ∙ maps in cc none

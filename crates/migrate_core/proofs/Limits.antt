@@ -45,7 +45,8 @@ use Rattle.migrate_core.proofs.Copyings.{copied_as}
 use Rattle.migrate_core.proofs.MappedItems.{own_item}
 use Rattle.migrate_core.proofs.Sharing.{later_taken, share_in_tree, stops_more, taken_for, taken_more}
 use Rattle.migrate_core.specs.Causes.{StopsLater}
-use Rattle.migrate_core.specs.Copying.{CopiesAll, HasCopied, MayBegin, StayGood, tree_in}
+use Rattle.migrate_core.specs.Copying.{CopiesAll, HasCopied, MayBegin, StayGood}
+use Rattle.migration_spec.specs.Guard.{tree_at}
 use Rattle.migrate_core.specs.Faults.{of_match}
 use Rattle.migrate_core.specs.Sharing.{IsOfTaken, SharesInTree, SharesWhereTidy}
 use Rattle.migrate_core.specs.Limits.{StopsElsewhere, StopsFor, EndsBy, HasSmallContents, IsContentAt, IsCut, IsLonger, IsOfLimit, IsSmall, PassesAsTold, PassesInTree, PassesLimit, content_in}
@@ -145,7 +146,7 @@ record IsReadWhole (keys : Keys) (found : Found) : Type 0 where
   file : IsSmallFile keys bytes
   read : limited_reading keys (bytes_found found) ≡ readable keys bytes
 
-small_read : FilesAreNotMuchLonger → FilesAreThere → (a : OpenedVault) (v : View) (path : plain.Path) (at : Path) → HasSmallContents (tree_in a v) → standing (format_of a.vault) (under a.root v) path ≡ File at
+small_read : FilesAreNotMuchLonger → FilesAreThere → (a : OpenedVault) (v : View) (path : plain.Path) (at : Path) → HasSmallContents (tree_at a v) → standing (format_of a.vault) (under a.root v) path ≡ File at
     → IsReadWhole (format_of a.vault).content (v (a.root ++ at))
 small_read short files a v path at small stands =
     let keys = (format_of a.vault).content in
@@ -153,13 +154,13 @@ small_read short files a v path at small stands =
     let file : IsSmallFile keys there.0 = small_stands (format_of a.vault) (under a.root v) path at there.0 stands there.1 (small path) in
     record { bytes = there.0; file = file; read = ap (λ found. limited_reading keys (bytes_found found)) there.1 ∙ small_whole content_limit at_limit short keys there.0 file.whole file.small }
 
-pub small_ends : FilesAreNotMuchLonger → FilesAreThere → (a : OpenedVault) (v : View) (path : plain.Path) (at : Path) → HasSmallContents (tree_in a v) → standing (format_of a.vault) (under a.root v) path ≡ File at
+pub small_ends : FilesAreNotMuchLonger → FilesAreThere → (a : OpenedVault) (v : View) (path : plain.Path) (at : Path) → HasSmallContents (tree_at a v) → standing (format_of a.vault) (under a.root v) path ≡ File at
     → (content_at (format_of a.vault).content v (a.root ++ at)).ending ≡ Whole
 small_ends short files a v path at small stands =
     let whole = small_read short files a v path at small stands in
     ap (λ (r : Reading). r.ending) whole.read ∙ whole.file.whole
 
-pub small_passes : FilesAreNotMuchLonger → FilesAreThere → (rule : NameMap) (from to : OpenedVault) (v : View) (at : Path) → HasOwnFolders from.vault (under from.root v) → HasSmallContents (tree_in from v) → PassesLimit rule from to v at → ⊥
+pub small_passes : FilesAreNotMuchLonger → FilesAreThere → (rule : NameMap) (from to : OpenedVault) (v : View) (at : Path) → HasOwnFolders from.vault (under from.root v) → HasSmallContents (tree_at from v) → PassesLimit rule from to v at → ⊥
 small_passes short files rule from to v at own small p = by p.cut
   where
     whole : IsReadWhole (format_of from.vault).content (v (from.root ++ p.source))

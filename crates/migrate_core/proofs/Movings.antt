@@ -13,7 +13,8 @@ use Rattle.folder_spec.proofs.Moments.{went_to}
 use Rattle.folder_spec.proofs.Paths.{below-apart}
 use Rattle.folder_spec.proofs.Regions.{seen_as_before}
 use Rattle.folder_spec.proofs.Tellings.{from_to_more}
-use Rattle.migration_sides.specs.Sides.{AreSeparate, IsWalked}
+use Rattle.migration_sides.specs.Sides.{IsWalked}
+use Rattle.folder_spec.specs.Apart.{AreSeparate}
 use Rattle.migration_spec.proofs.Kept.{not_staged, turned, beside_of}
 use Rattle.plain_tree.specs.declared.name_map.NameMap.{NameMap}
 use Rattle.vault_read.specs.Laws.{HasOwnFolders}

@@ -22,7 +22,7 @@ use Rattle.content_writing.specs.declared.fault.PutFault.TheVariants.{NoMemory, 
 use Rattle.migration_spec.proofs.Kept.{behind_none}
 use Rattle.migration_spec.specs.Alone.{Begun, IsAlone, StaysGuarded}
 use Rattle.migration_spec.specs.Guard.{Migration}
-use Rattle.work_folder.specs.Apart.{AreApart}
+use Rattle.folder_spec.specs.Apart.{AreApart}
 use Rattle.migration_spec.specs.Placed.{ItemAt, IsHeld, Places, placing_of}
 use Rattle.vault_spec.specs.Opened.{OpenedVault}
 use Rattle.vault_spec.specs.Find.{Refusal, enter}

@@ -18,12 +18,12 @@ use Rattle.plain_tree.specs.Names as plain
 use Rattle.plain_tree.specs.declared.NodeKind.TheVariants.{Dir, File}
 use Rattle.plain_tree.specs.declared.name_map.NameMap.{NameMap}
 use Rattle.migration_sides.proofs.Passing.{own_folders}
-use Rattle.migration_sides.specs.Sides.{AreSeparate, IsWalked}
+use Rattle.migration_sides.specs.Sides.{IsWalked}
+use Rattle.folder_spec.specs.Apart.{AreSeparate, AreApart}
 use Rattle.migration_spec.proofs.Kept.{source_in}
 use Rattle.migration_spec.specs.Alone.{Progress, IsAlone, IsIn}
 use Rattle.tree_match.specs.Comparing.{bytes_found, content_at}
-use Rattle.migration_spec.specs.Guard.{HoldsSource, Migration}
-use Rattle.work_folder.specs.Apart.{AreApart}
+use Rattle.migration_spec.specs.Guard.{HoldsSource, Migration, tree_at}
 use Rattle.tree_match.specs.Trees.{Side, IsMappedWalkOf, IsWalkOf, side_of, tree_of}
 use Rattle.vault_read.specs.Contents.{Reader, limited_reading}
 use Rattle.vault_spec.specs.Opened.{OpenedVault}
@@ -37,7 +37,6 @@ use Rattle.content_writing.specs.Placing.{MayMake}
 use Rattle.work_folder.specs.Entering as entering
 use Rattle.migrate_core.proofs.MappedItems.{own_item}
 use Rattle.migrate_core.proofs.Movings.{source_not_in_target, source_not_in_work}
-use Rattle.migrate_core.specs.Copying.{tree_in}
 use Rattle.migrate_core.specs.Sides.{IsItemOf, IsMappedWalk}
 
 -- what is seen of a folder that tells this
@@ -93,7 +92,7 @@ DirectoriesOpen = (v : View) (names : NameMap) (a : Side) (item : Planned) → I
 pub directory_held : SeenAlone → DirectoriesOpen → (g : Migration) (p : Progress) (t : Option Told) (a : Told) (item : Planned) → t ≡ Some a → IsAlone g p a.state → IsItemOf g.names t g.source item
     → item.node ≡ Dir → IsMappedItem g.names g.held item.path Directory
 directory_held shown opens g p t a item is at of node =
-    mapped_alike g.names (tree_in g.source (seen a.state)) g.held item.path Directory (source_held shown g p a.state at).held
+    mapped_alike g.names (tree_at g.source (seen a.state)) g.held item.path Directory (source_held shown g p a.state at).held
     (opens (seen a.state) g.names (side_of g.source of.items) item (source_mapped_walk shown g p t a of.items is at of.walked) of.among node)
 
 -- ---- a file
@@ -122,9 +121,9 @@ pub file_opens : FilesOpen → FilesFit → (rule : NameMap) (from : OpenedVault
     → item.node ≡ File
     → (content : List ℕ) (ending : Ending)
     → ((c : Coming) → coming_read (reader_of from item) content_limit [] (seen a.state item.at) ≡ Some c → c ≡ record { bytes = content; ending = ending })
-    → ending ≡ Whole → IsMappedItem rule (tree_in from (seen a.state)) item.path (Content content)
+    → ending ≡ Whole → IsMappedItem rule (tree_at from (seen a.state)) item.path (Content content)
 file_opens opens fits rule from t a item is of walk node content ending told whole =
-    subst (λ bytes. IsMappedItem rule (tree_in from (seen a.state)) item.path (Content bytes)) (sym (sym comes ∙ same)) (opens (seen a.state) rule (side_of from of.items) item walk of.among node ended)
+    subst (λ bytes. IsMappedItem rule (tree_at from (seen a.state)) item.path (Content bytes)) (sym (sym comes ∙ same)) (opens (seen a.state) rule (side_of from of.items) item walk of.among node ended)
   where
     keys : Keys
     keys = (format_of from.vault).content
@@ -156,7 +155,7 @@ pub file_held : SeenAlone → FilesOpen → FilesFit → (g : Migration) (p : Pr
     → ((c : Coming) → coming_read (reader_of g.source item) content_limit [] (seen a.state item.at) ≡ Some c → c ≡ record { bytes = content; ending = ending })
     → ending ≡ Whole → IsMappedItem g.names g.held item.path (Content content)
 file_held shown opens fits g p t a item is at of node content ending told whole =
-    mapped_alike g.names (tree_in g.source (seen a.state)) g.held item.path (Content content) (source_held shown g p a.state at).held
+    mapped_alike g.names (tree_at g.source (seen a.state)) g.held item.path (Content content) (source_held shown g p a.state at).held
     (file_opens opens fits g.names g.source t a item is of (source_mapped_walk shown g p t a of.items is at of.walked) node content ending told whole)
 
 -- ---- the content of a file

@@ -6,7 +6,7 @@ use Rattle.folder_spec.specs.Region.{apart_from_both}
 use Rattle.folder_spec.specs.Path.{Path}
 use Rattle.folder_spec.specs.Seen.{IsSeen, under}
 use Rattle.folder_spec.specs.View.{View}
-use Rattle.migration_sides.specs.Sides.{AreSeparate}
+use Rattle.folder_spec.specs.Apart.{AreSeparate}
 use Rattle.migration_spec.proofs.Tellings.{AreSound, seen_then}
 use Rattle.plain_tree.specs.declared.name_map.NameMap.{NameMap}
 use Rattle.vault_spec.specs.Opened.{OpenedVault}

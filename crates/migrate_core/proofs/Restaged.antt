@@ -14,8 +14,8 @@ use Rattle.move_journal.specs.declared.journal.Phase.TheVariants as phase
 use Rattle.migration_spec.proofs.Kept.{behind_none}
 use Rattle.migration_spec.specs.Alone.{Progress, Begun, Finished, IsAlone, StaysAlone}
 use Rattle.migration_spec.specs.Guard.{IsDone, Migration, Tells, tree_at}
-use Rattle.work_folder.specs.Apart.{AreApart}
-use Rattle.migration_sides.specs.Sides.{IsWalked, AreSeparate}
+use Rattle.folder_spec.specs.Apart.{AreApart, AreSeparate}
+use Rattle.migration_sides.specs.Sides.{IsWalked}
 use Rattle.mapped_trees.specs.Plans.{IsPlanOf}
 use Rattle.mapped_trees.specs.Trees.{IsMapped}
 use Rattle.plain_tree.specs.Mapped.{mapped_path}

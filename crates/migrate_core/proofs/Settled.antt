@@ -6,8 +6,8 @@ use Rattle.folder_spec.specs.Seen.{IfSeen, IsSeen, seen, under}
 use Rattle.folder_spec.specs.State.{State, IsSound}
 use Rattle.folder_spec.specs.View.{Found, NoEntry, Folder, FileOf, Special, View, kind_found}
 use Rattle.move_journal.specs.Journal.{IsJournal}
-use Rattle.move_journal.specs.Reading.{ReadsAs, journal_bytes, journal_path, StandsIn}
-use Rattle.move_journal.specs.Writing.{new_journal_path}
+use Rattle.move_journal.specs.Reading.{ReadsAs, journal_bytes, StandsIn}
+use Rattle.work_folder.specs.Entries.{journal_path, new_journal_path, is_foreign, stage_path}
 use Rattle.move_journal.specs.declared.journal.Journal.{Journal}
 use Rattle.move_journal.specs.declared.journal.Phase.{Phase}
 use Rattle.move_journal.specs.declared.journal.Phase.TheVariants as phase
@@ -19,7 +19,6 @@ use Rattle.plain_tree.specs.declared.name_map.NameMap.{NameMap}
 use Rattle.vault_read.specs.Laws.{HaveOneAnswer}
 use Rattle.vault_spec.specs.Opened.{OpenedVault}
 use Rattle.vault_spec.specs.Vault.{Vault, LoadsFrom, IsVault}
-use Rattle.work_folder.specs.Entries.{is_foreign, stage_path}
 use Rattle.work_folder.specs.Looking.{Tests, TestsEntries, TestsJournal, TestsKind, TestsParent}
 use Rattle.migration_spec.proofs.Entries.{entries_pass}
 use Rattle.migration_spec.proofs.Settling.{SettlesGuarded, settle_then, still_guarded}

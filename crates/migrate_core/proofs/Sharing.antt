@@ -24,7 +24,7 @@ use Rattle.plain_tree.specs.Order.{path_cmp}
 use Rattle.plain_tree.specs.declared.name_map.NameMap.{NameMap}
 use Rattle.port_model.specs.Draws.{ByteStream, Draws}
 use Rattle.migration_sides.specs.Sides.{IsWalked, opened_in}
-use Rattle.work_folder.specs.Apart.{AreApart}
+use Rattle.folder_spec.specs.Apart.{AreApart}
 use Rattle.tree_match.specs.Trees.{IsWalkOf, side_of}
 use Rattle.vault_read.specs.Laws.{KeepsVaults}
 use Rattle.vault_spec.specs.Opened.{OpenedVault}
@@ -53,7 +53,8 @@ use Rattle.migrate_core.proofs.Placings.{made_moves}
 use Rattle.migrate_core.proofs.Stopping.{Stays}
 use Rattle.migrate_core.proofs.Within.{StandBehind, content_opens}
 use Rattle.migrate_core.specs.Causes.{IsStop, StopsLater, nothing_stops}
-use Rattle.migrate_core.specs.Copying.{Copies, HasCopied, MayBegin, tree_in}
+use Rattle.migrate_core.specs.Copying.{Copies, HasCopied, MayBegin}
+use Rattle.migration_spec.specs.Guard.{tree_at}
 use Rattle.migrate_core.specs.Faults.{of_put}
 use Rattle.migrate_core.specs.Limits.{StopsFor}
 use Rattle.migrate_core.specs.Moving.{MovesBeside, OnlyBrings}
@@ -241,7 +242,7 @@ module _ (behind : StandBehind) (files : FilesAreThere) (leads : EnteredLeads) (
     (item : NewItem) (ending : Ending) (drawn : List ℕ) (s s' : Option ByteStream) (were_drawn : Draws s s' drawn) (t u : Option Told) (named : IsTrue (list_all is_name planned.path)) (kind : IsMadeFor planned.node item) where
   taken_shares : (at : Path) → MakesAt New to work planned.path item ending drawn t u (Err (put.Taken at)) → IfSeen t (λ v. Lacks rule from to planned v → SharesPlace to planned drawn v)
   taken_shares at made v is l = elim (base_or_child planned.path) [
-    | inl root ↦ absurd (no_directory (sym (root_directory (format_of to.vault) (under to.root v)) ∙ ap (tree_in to v) (sym root) ∙ l.lacks))
+    | inl root ↦ absurd (no_directory (sym (root_directory (format_of to.vault) (under to.root v)) ∙ ap (tree_at to v) (sym root) ∙ l.lacks))
     | inr below ↦ shares below.0 below.1 below.2 ((made.named below.0 below.1 below.2).answer v is)
   ]
     where
@@ -272,7 +273,7 @@ module _ (behind : StandBehind) (files : FilesAreThere) (leads : EnteredLeads) (
 
           missing : IsNoItem (standing_in (format_of to.vault) (under to.root v) a.2.dir name)
           missing = subst IsNoItem (behind (format_of to.vault) (under to.root v) front a.2.dir name way)
-              (no_item files to.vault (under to.root v) (front ++ name ∷ []) (subst (λ p. tree_in to v p ≡ NoItem) path l.lacks))
+              (no_item files to.vault (under to.root v) (front ++ name ∷ []) (subst (λ p. tree_at to v p ≡ NoItem) path l.lacks))
 
   pub item_stops : AreApart to.root work → (why : PutFault) → MakesAt New to work planned.path item ending drawn t u (Err why) → StopsFor (SharesFrom (Lacks rule from to planned) to (planned ∷ []) s s' t u) (of_put why)
   item_stops apart why made = put_stops (SharesFrom (Lacks rule from to planned) to (planned ∷ []) s s' t u) why
@@ -332,12 +333,12 @@ in_take (y ∷ xs) (suc k) x (zero, lt, at) = (0, omega arith, omega arith, at)
 in_take (y ∷ xs) (suc k) x (suc j, lt, at) = let c = in_take xs k x (j, omega (arith, lt), at) in (suc c.0, omega (arith, c.1), omega (arith, c.2), c.3)
 
 -- the next item isn't there yet
-pub next_lacks : (rule : NameMap) (from to : OpenedVault) (there items : List Planned) (k : ℕ) (item : Planned) (v : View) → TellsMapped rule (tree_in from v) items → k < length items → item ≡ get_or items k item
+pub next_lacks : (rule : NameMap) (from to : OpenedVault) (there items : List Planned) (k : ℕ) (item : Planned) (v : View) → TellsMapped rule (tree_at from v) items → k < length items → item ≡ get_or items k item
     → HasCopied rule from to (there ++ take k items) v → HasOnly to (take k items) v → Lacks rule from to item v
-next_lacks rule from to there items k item v tells inside at copied only = record { copying = copied.copying; tidy = only.tidy; lacks = nothing_else (tree_in to v item.path) lacks }
+next_lacks rule from to there items k item v tells inside at copied only = record { copying = copied.copying; tidy = only.tidy; lacks = nothing_else (tree_at to v item.path) lacks }
   where
-    source : ComesFrom rule (tree_in from v) item
-    source = comes_from rule (tree_in from v) items item tells (k, inside, sym at)
+    source : ComesFrom rule (tree_at from v) item
+    source = comes_from rule (tree_at from v) items item tells (k, inside, sym at)
 
     named : item.path ≢ []
     named root = by source.path source.named (source.comes ∙ root)
@@ -349,7 +350,7 @@ next_lacks rule from to there items k item v tells inside at copied only = recor
     never_less : Equal ≢ Less
     never_less e = cc e
 
-    lacks : tree_in to v item.path ≢ NoItem → ⊥
+    lacks : tree_at to v item.path ≢ NoItem → ⊥
     lacks there =
         let x : (x : Planned) × Contains (take k items) x × (x.path ≡ item.path) = only.only item.path named there in
         let j : (j : ℕ) × (j < k) × (j < length items) × (get_or items j x.0 ≡ x.0) = in_take items k x.0 x.1 in
@@ -368,8 +369,8 @@ source_shares tells rule from to items mapped s s' t u may walked walked_to shar
     may v is own,
     record {
       tidy = tidy;
-      empty = λ path named. nothing_else (tree_in to v path)
-          (λ there. let x : (x : Planned) × Contains [] x × (x.path ≡ path) = planned_at (tree_in to v) [] (tells v (side_of to []) b) path named there in omega (arith, x.1.1));
+      empty = λ path named. nothing_else (tree_at to v path)
+          (λ there. let x : (x : Planned) × Contains [] x × (x.path ≡ path) = planned_at (tree_at to v) [] (tells v (side_of to []) b) path named there in omega (arith, x.1.1));
     },
   );
 }

@@ -4,16 +4,15 @@ use Rattle.std.proofs.lemmas.List.{take_more, take-append-drop}
 use Rattle.folder_spec.specs.Event.{Told, FromTo}
 use Rattle.folder_spec.proofs.Regions.{seen_as_before}
 use Rattle.folder_spec.specs.Path.{Path}
-use Rattle.folder_spec.specs.Region.{IsAsBefore}
+use Rattle.folder_spec.specs.Region.{IsAsBefore, apart_from_both}
 use Rattle.plain_tree.specs.declared.name_map.NameMap.{NameMap}
 use Rattle.vault_spec.specs.Opened.{OpenedVault}
 use Rattle.vault_spec.specs.Plan.{Planned}
 use Rattle.content_writing.specs.Making.{is_apart}
 use Rattle.migrate_core.proofs.Movings.{source_apart, source_beside, moves_to}
 use Rattle.migrate_core.proofs.Planned.{mapped_behind}
-use Rattle.migration_sides.specs.Sides.{AreSeparate}
+use Rattle.folder_spec.specs.Apart.{AreSeparate}
 use Rattle.migrate_core.specs.Moved.{is_there}
-use Rattle.folder_spec.specs.Region.{apart_from_both}
 use Rattle.migrate_core.specs.Sides.{IsMappedWalk}
 use Rattle.migrate_core.specs.Written.{lacked}
 use Rattle.migration_spec.proofs.Tellings.{AreSound}

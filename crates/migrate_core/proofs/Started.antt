@@ -27,7 +27,8 @@ use Rattle.migrate_core.proofs.Causing.{PassedWith}
 use Rattle.migrate_core.proofs.Compared.{planned_at}
 use Rattle.tree_match.proofs.Passing.{TellsTree}
 use Rattle.migrate_core.specs.Causes.{TestsHeld, TestsItems}
-use Rattle.migrate_core.specs.Copying.{MayBegin, tree_in}
+use Rattle.migrate_core.specs.Copying.{MayBegin}
+use Rattle.migration_spec.specs.Guard.{tree_at}
 use Rattle.migration_spec.proofs.Tellings.{AreSound}
 
 -- what is seen has its folders, also at a root
@@ -49,7 +50,7 @@ CleanIsOrderly a = (v : View) → HasFolders v → HasOwnFolders a.vault v → I
 
 -- the target's tree is part of the source's, as walks of both tell
 abbrev pub HeldAtFirst : NameMap → OpenedVault → OpenedVault → List Planned → List Planned → Option Told → Type 0
-HeldAtFirst rule from to items there t = IfSeen t (λ v. IsWalkOf v (side_of from items) → IsWalkOf v (side_of to there) → IsPartOf rule (tree_in to v) (tree_in from v))
+HeldAtFirst rule from to items there t = IfSeen t (λ v. IsWalkOf v (side_of from items) → IsWalkOf v (side_of to there) → IsPartOf rule (tree_at to v) (tree_at from v))
 
 pub may_begin : TellsTree → (rule : NameMap) (from to : OpenedVault) → CleanIsOrderly from → CleanIsOrderly to → (items there : List Planned) (t : Option Told) → AreSound t → IsWalked t from items → IsWalked t to there
     → IfSeen t (λ v. Walks from v (Ok items)) → HeldAtFirst rule from to items there t → MayBegin rule from to there t
@@ -69,7 +70,7 @@ may_begin tells rule from to orderly orderly_to items there t sound walked walke
 -- nothing is in an empty target
 pub empty_held : TellsTree → (rule : NameMap) (from to : OpenedVault) (items : List Planned) (t : Option Told) → HeldAtFirst rule from to items [] t
 empty_held tells rule from to items t v is a b path named there =
-    let x : (x : Planned) × Contains [] x × (x.path ≡ path) = planned_at (tree_in to v) [] (tells v (side_of to []) b) path named there in
+    let x : (x : Planned) × Contains [] x × (x.path ≡ path) = planned_at (tree_at to v) [] (tells v (side_of to []) b) path named there in
     absurd (omega (arith, x.1.1))
 
 -- what a vault holds of a mapped one is part of it

@@ -14,16 +14,16 @@ use Rattle.folder_spec.proofs.Paths.{begins_or_not, below-append, below-apart, b
 use Rattle.folder_spec.proofs.Tellings.{from_to_more}
 use Rattle.folder_spec.proofs.Regions.{seen_as_before}
 use Rattle.move_journal.specs.Journal.{journal_text}
-use Rattle.move_journal.specs.Writing.{IsWorkFolder, IsWriting, Writes, HasWritten, elsewhere, new_journal_path}
+use Rattle.move_journal.specs.Writing.{IsWorkFolder, IsWriting, Writes, HasWritten, elsewhere}
+use Rattle.work_folder.specs.Entries.{new_journal_path, journal_path, stage_path}
 use Rattle.move_journal.specs.declared.journal.Journal.{Journal}
 use Rattle.move_journal.specs.Reading.{StandsIn}
 use Rattle.move_journal.proofs.Standing.{stands_alike}
 use Rattle.migration_spec.proofs.Kept.{behind_none, entry_inside, staged_in, beside_both}
-use Rattle.work_folder.specs.Apart.{AreApart}
+use Rattle.folder_spec.specs.Apart.{AreApart}
 use Rattle.content_writing.specs.Making.{is_apart, is_inside, is_staged}
 use Rattle.work_folder.specs.Changing.{ChangesAt, ChangesOnly, IsChangingAt}
 use Rattle.work_folder.specs.Entering.{Empties, EntersAs, IsReady, IsFresh, IsLeftOver, IsWorkOrStage}
-use Rattle.work_folder.specs.Entries.{journal_path, stage_path}
 use Rattle.migrate_core.proofs.Movings.{apart_of, moves_within, moves_on}
 use Rattle.migrate_core.specs.Moved.{IsTidyWork, StaysTidyWork}
 use Rattle.migrate_core.specs.Moving.{OnlyBrings, MovesBeside, MovesOnly}

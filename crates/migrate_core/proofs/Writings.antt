@@ -3,18 +3,15 @@ use Rattle.std.proofs.Common.{◌≡◌, ◌≢◌, ◌+◌, inl, inr, ◌≤◌
 use Rattle.std.specs.List.{concat}
 use Rattle.std.proofs.lemmas.Bool.{ltb-true, ltb-false}
 use Rattle.std.proofs.lemmas.List.Elements.{filter-append}
-use Rattle.folder_spec.proofs.Moments.{went_nowhere, went_on, went_more, went_to}
+use Rattle.folder_spec.proofs.Moments.{went_nowhere, went_on, went_more, went_to, went_by_call}
 use Rattle.folder_spec.proofs.Tellings.{from_to_more, from_to_on, from_to_same}
-use Rattle.folder_spec.specs.Event.{Append, Call, Create, Event, MakeDir, RemoveDir, RemoveFile, Rename, Sync, Told, FromTo}
+use Rattle.folder_spec.specs.Event.{Append, Call, Create, Event, MakeDir, RemoveDir, RemoveFile, Rename, Sync, Told, FromTo, Changes, Settle, Steps, changed}
 use Rattle.folder_spec.specs.Moments.{Went, Moments}
-use Rattle.folder_spec.specs.Seen.{IfSeen, IsSeen, seen}
+use Rattle.folder_spec.specs.Seen.{IfSeen, IsSeen, seen, under}
 use Rattle.folder_spec.specs.State.{Node, State, BeginsWith}
 use Rattle.folder_spec.specs.View.{Found, View}
-use Rattle.folder_spec.proofs.Moments.{went_by_call}
-use Rattle.folder_spec.specs.Event.{Changes, Settle, Steps, changed}
 use Rattle.folder_spec.specs.Path.{Path}
 use Rattle.folder_spec.specs.Region.{Spares, SparesOld, apart_from}
-use Rattle.folder_spec.specs.Seen.{under}
 use Rattle.folder_spec.specs.Written.{HoldFronts}
 use Rattle.folder_spec.specs.declared.FolderFault.{FolderFault}
 use Rattle.vault_contents.specs.Coming.{ending_of}
@@ -39,7 +36,7 @@ use Rattle.content_writing.specs.Making.{IsPlace, Making, StagesOrPlaces}
 use Rattle.work_folder.specs.Changing.{ChangesAt, ChangesOnly, IsChangingAt}
 use Rattle.migrate_core.proofs.Placings.{below_root}
 use Rattle.migrate_core.proofs.WorkFolders.{apart_at, elsewhere_at, not_in_root, not_moved}
-use Rattle.work_folder.specs.Apart.{AreApart}
+use Rattle.folder_spec.specs.Apart.{AreApart}
 use Rattle.migration_sides.proofs.Chains.{refused_as}
 use Rattle.migrate_core.specs.Moved.{is_there}
 use Rattle.migrate_core.specs.Causes.{IsStop, nothing_stops}

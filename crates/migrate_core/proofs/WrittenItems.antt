@@ -5,12 +5,11 @@ use Rattle.folder_spec.proofs.Moments.{went_more}
 use Rattle.folder_spec.proofs.Tellings.{from_to_more}
 use Rattle.folder_spec.specs.Event.{Told}
 use Rattle.folder_spec.specs.Moments.{Went}
-use Rattle.folder_spec.specs.Seen.{IfSeen, seen}
+use Rattle.folder_spec.specs.Seen.{IfSeen, seen, under}
 use Rattle.folder_spec.specs.State.{State}
 use Rattle.folder_spec.specs.View.{View}
 use Rattle.folder_spec.proofs.Paths.{base_or_child}
 use Rattle.folder_spec.specs.Path.{Path}
-use Rattle.folder_spec.specs.Seen.{under}
 use Rattle.content_writing.specs.Content.{Coming, Ending, Whole, content_limit}
 use Rattle.vault_contents.specs.Coming.{coming_read, ending_of, held_before}
 use Rattle.content_writing.specs.declared.fault.PutFault.{PutFault}
@@ -25,10 +24,9 @@ use Rattle.port_model.specs.Draws.{ByteStream, Draws}
 use Rattle.tree_match.specs.Comparing.{bytes_found, content_at}
 use Rattle.vault_read.specs.Contents.{limited_reading}
 use Rattle.vault_spec.specs.Opened.{OpenedVault}
-use Rattle.vault_spec.specs.Find.{Refusal}
+use Rattle.vault_spec.specs.Find.{Refusal, enter}
 use Rattle.vault_spec.specs.Findings.{IsFileAt}
 use Rattle.vault_spec.specs.Format.{Directory}
-use Rattle.vault_spec.specs.Find.{enter}
 use Rattle.vault_spec.specs.Making.{NewDirectory, NewFile, NewItem, draws}
 use Rattle.vault_spec.specs.Plan.{Planned}
 use Rattle.vault_spec.specs.Vault.{format_of}
@@ -36,7 +34,7 @@ use Rattle.chunk_files.specs.Keys.{Keys}
 use Rattle.vault_write.specs.Calls.{MakesAt, MakesOne, New}
 use Rattle.content_writing.specs.Making.{IsPlace, Placing, StagesOrPlaces, format, making_in, new_item, path_of}
 use Rattle.content_writing.specs.Placing.{IsMaking, making_at}
-use Rattle.work_folder.specs.Apart.{AreApart}
+use Rattle.folder_spec.specs.Apart.{AreApart}
 use Rattle.migrate_core.proofs.Planned.{FilesFit, mapped_files, reader_of}
 use Rattle.migration_sides.proofs.Chains.{refused_as}
 use Rattle.migrate_core.specs.Sides.{IsItemOf}

@@ -1,4 +1,5 @@
 -- A target that the items of the source are copied into, as it is seen between two of them.
+use Rattle.migration_spec.specs.Guard.{tree_at}
 use Rattle.std.specs.Prelude.{◌≡◌, ◌≢◌, ◌⊎◌, ◌++◌, ◌∷◌, [], ℕ, List, Contains, Ok, Option}
 use Rattle.folder_spec.specs.Event.{Told}
 use Rattle.folder_spec.specs.Seen.{IfSeen, IsSeen, under}
@@ -10,7 +11,7 @@ use Rattle.vault_read.specs.Laws.{HasOwnFolders}
 use Rattle.vault_spec.specs.Opened.{OpenedVault}
 use Rattle.vault_spec.specs.Find.{enter}
 use Rattle.vault_spec.specs.Format.{Directory}
-use Rattle.vault_spec.specs.Opens.{Tree, NoItem, tree}
+use Rattle.vault_spec.specs.Opens.{NoItem}
 use Rattle.vault_spec.specs.Plan.{Planned}
 use Rattle.vault_spec.specs.Staying.{LoadsAlike}
 use Rattle.vault_spec.specs.Tidy.{IsTidy}
@@ -23,19 +24,15 @@ pub record HaveOwnFolders (from to : OpenedVault) (v : View) : Type 0 where
   pub source : HasOwnFolders from.vault (under from.root v)
   pub target : HasOwnFolders to.vault (under to.root v)
 
--- what opens in the vault
-abbrev pub tree_in : OpenedVault → View → Tree
-tree_in a v = tree (format_of a.vault) (under a.root v)
-
 -- both vaults are in good order, the source passes no limit, and each item of the target is one of the mapped source and isn't broken
 pub record IsCopying (rule : NameMap) (from to : OpenedVault) (v : View) : Type 0 where
   pub source : ShowsVault (format_of from.vault) from.root v
   pub within : IsWithin (format_of from.vault) (under from.root v)
   pub target : ShowsVault (format_of to.vault) to.root v
-  pub part : IsPartOf rule (tree_in to v) (tree_in from v)
+  pub part : IsPartOf rule (tree_at to v) (tree_at from v)
 
 abbrev pub HasItem : OpenedVault → View → Planned → Type 0
-HasItem a v item = tree_in a v item.path ≢ NoItem
+HasItem a v item = tree_at a v item.path ≢ NoItem
 
 -- the target has these items already
 pub record HasCopied (rule : NameMap) (from to : OpenedVault) (items : List Planned) (v : View) : Type 0 where
@@ -51,8 +48,8 @@ Enters to item v = (front : plain.Path) (name : List ℕ) → item.path ≡ fron
 pub record Copies (rule : NameMap) (from to : OpenedVault) (item : Planned) (v w : View) : Type 0 where
   pub copying : IsCopying rule from to w
   pub has : HasItem to w item
-  pub keeps : (path : plain.Path) → tree_in to v path ≢ NoItem → tree_in to w path ≢ NoItem
-  pub gains : (path : plain.Path) → tree_in to w path ≢ NoItem → (path ≡ item.path) ⊎ (tree_in to v path ≢ NoItem)
+  pub keeps : (path : plain.Path) → tree_at to v path ≢ NoItem → tree_at to w path ≢ NoItem
+  pub gains : (path : plain.Path) → tree_at to w path ≢ NoItem → (path ≡ item.path) ⊎ (tree_at to v path ≢ NoItem)
   pub tidy : IsTidy (format_of to.vault) (under to.root v) → IsTidy (format_of to.vault) (under to.root w)
   pub loads : LoadsAlike (under to.root v) (under to.root w)
 

@@ -22,12 +22,13 @@ use Rattle.migrate_core.specs.Sides.{AreTold}
 use Rattle.mapped_trees.specs.Trees.{IsMapped}
 use Rattle.migration_sides.specs.Sides.{opened_in}
 use Rattle.tree_match.specs.Mapping.{IsMappedPlan}
-use Rattle.migrate_core.specs.Copying.{StayGood, tree_in}
+use Rattle.migrate_core.specs.Copying.{StayGood}
+use Rattle.migration_spec.specs.Guard.{tree_at}
 use Rattle.migrate_core.specs.declared.placing.Done.{Done}
 
 -- where no two directories of either vault share a folder, the second has the mapped tree of the first
 abbrev pub HaveMappedTree : NameMap → OpenedVault → OpenedVault → View → Type 0
-HaveMappedTree rule from to v = HasOwnFolders from.vault (under from.root v) → HasOwnFolders to.vault (under to.root v) → IsMapped rule (tree_in from v) (tree_in to v)
+HaveMappedTree rule from to v = HasOwnFolders from.vault (under from.root v) → HasOwnFolders to.vault (under to.root v) → IsMapped rule (tree_at from v) (tree_at to v)
 
 -- the journal that says that all is done
 abbrev pub done_of : Journal → Journal

@@ -22,7 +22,8 @@ use Rattle.vault_spec.specs.Staying.{LoadsAlike}
 use Rattle.vault_spec.specs.Tidy.{HasOwnPlace, IsTidy}
 use Rattle.vault_spec.specs.Vault.{Vault, IsVault, format_of}
 use Rattle.content_writing.specs.Trees.{ShowsVault}
-use Rattle.migrate_core.specs.Copying.{HasCopied, HaveOwnFolders, IsCopying, tree_in}
+use Rattle.migrate_core.specs.Copying.{HasCopied, HaveOwnFolders, IsCopying}
+use Rattle.migration_spec.specs.Guard.{tree_at}
 use Rattle.migration_sides.specs.Sides.{opened_in}
 use Rattle.migrate_core.specs.Moved.{AreMappedItems}
 use Rattle.migrate_core.specs.Written.{WasSeen}
@@ -100,12 +101,12 @@ SharesFrom Is to items stream stream' told told' = IfSeen told (λ v. Is v → O
 pub record Lacks (rule : NameMap) (from to : OpenedVault) (item : Planned) (v : View) : Type 0 where
   pub copying : IsCopying rule from to v
   pub tidy : IsTidyAt to v
-  pub lacks : tree_in to v item.path ≡ NoItem
+  pub lacks : tree_at to v item.path ≡ NoItem
 
 -- it is tidy, and nothing but its root opens in it
 pub record IsFresh (to : OpenedVault) (v : View) : Type 0 where
   pub tidy : IsTidyAt to v
-  pub empty : (path : plain.Path) → path ≢ [] → tree_in to v path ≡ NoItem
+  pub empty : (path : plain.Path) → path ≢ [] → tree_at to v path ≡ NoItem
 
 -- it has the ones already, and was fresh
 abbrev pub IsFilled : NameMap → OpenedVault → OpenedVault → List Planned → View → Type 0
@@ -114,7 +115,7 @@ IsFilled rule from to there v = HasCopied rule from to there v × IsFresh to v
 -- it is tidy, and nothing but its root and some of these items open in it
 pub record HasOnly (to : OpenedVault) (items : List Planned) (v : View) : Type 0 where
   pub tidy : IsTidyAt to v
-  pub only : (path : plain.Path) → path ≢ [] → tree_in to v path ≢ NoItem → (item : Planned) × Contains items item × (item.path ≡ path)
+  pub only : (path : plain.Path) → path ≢ [] → tree_at to v path ≢ NoItem → (item : Planned) × Contains items item × (item.path ≡ path)
 
 -- it was fresh, and has only these of the items; and each passphrase opens it as it did
 abbrev pub FillsOnly : NameMap → OpenedVault → OpenedVault → List Planned → List Planned → Option Told → Option Told → Type 0

@@ -18,7 +18,7 @@ ghost use Rattle.migrate_core.specs.Moving.{MovesOnly};
 ghost use Rattle.migrate_core.specs.Written.{MayWrite, MayWriteTree, WritesBeside, WritesBy, journal_texts, lacked};
 ghost use Rattle.migrate_core.specs.Sharing.{IsFilled, IsOfTaken, SharesFrom, SharesInTree, SharesWhereTidy};
 ghost use Rattle.migrate_core.specs.Sides.{AllowsEach, AllowsEachMapped, AreItemsToMove, IsAsked};
-ghost use Rattle.migration_sides.specs.Sides.{AreSeparate};
+ghost use Rattle.folder_spec.specs.Apart.{AreSeparate};
 ghost use Rattle.migration_sides.specs.Tests.{all_pass};
 ghost use Rattle.migration_sides.specs.Unchanged.{ChangesNothing};
 

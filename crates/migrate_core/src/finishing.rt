@@ -8,7 +8,7 @@ ghost use Rattle.move_journal.specs.Writing.{IsWorkFolder};
 ghost use Rattle.move_journal.specs.Reading.{StandsIn};
 ghost use Rattle.migration_spec.specs.Alone.{Begun, Finished};
 ghost use Rattle.tree_match.specs.Comparing.{Is};
-ghost use Rattle.work_folder.specs.Apart.{AreApart};
+ghost use Rattle.folder_spec.specs.Apart.{AreApart, AreSeparate};
 ghost use Rattle.tree_match.specs.Trees.{IsSameOrTooLong, match_of, side_of};
 ghost use Rattle.tree_match.specs.declared.answer.Match.TheVariants.{Same};
 ghost use Rattle.vault_spec.specs.Vault.{format_of};
@@ -24,7 +24,7 @@ ghost use Rattle.migrate_core.specs.Moving.{MovesOnly};
 ghost use Rattle.migrate_core.specs.Written.{WritesBeside, WritesBy, lacked};
 ghost use Rattle.migrate_core.specs.Sharing.{IsFilled, SharesFrom};
 ghost use Rattle.migrate_core.specs.Sides.{AllowsEach, AreItemsToMove, AreTold, IsMappedWalk, StandAll};
-ghost use Rattle.migration_sides.specs.Sides.{AreSeparate, IsWalked};
+ghost use Rattle.migration_sides.specs.Sides.{IsWalked};
 
 use crate::fault::MoveFault;
 use crate::placing::{Done, place_missing};

@@ -7,10 +7,9 @@ ghost use Rattle.folder_spec.specs.View.{View};
 ghost use Rattle.plain_tree.specs.Names as plain;
 ghost use Rattle.plain_tree.specs.declared.name_map.NameMap.{NameMap};
 ghost use Rattle.tree_match.specs.Comparing.{content_at};
-ghost use Rattle.migration_spec.specs.Guard.{AreOpenedBy, Migration};
+ghost use Rattle.migration_spec.specs.Guard.{AreOpenedBy, Migration, tree_at};
 ghost use Rattle.migrate_core.specs.Causes.{Begins, Resumes};
 ghost use Rattle.migrate_core.specs.Completing.{CanBegin, CanResume, IsOfChance};
-ghost use Rattle.migrate_core.specs.Copying.{tree_in};
 ghost use Rattle.migrate_core.specs.Faults.{IsMoveFault};
 ghost use Rattle.migrate_core.specs.Limits.{HasSmallContents, IsLonger, PassesLimit};
 ghost use Rattle.migrate_core.specs.declared.fault.MoveFault.{MoveFault};
@@ -54,8 +53,8 @@ pub fn what_can_resume_is_done()
 /// of the source are, none passes it.
 pub fn small_contents_pass_no_limit()
     ensures long { (rule : NameMap) (from to : OpenedVault) (v : View) (at : Path) → PassesLimit rule from to v at → IsLonger v at }
-    ensures whole { (a : OpenedVault) (v : View) (path : plain.Path) (at : Path) → HasSmallContents (tree_in a v) → standing (format_of a.vault) (under a.root v) path ≡ File at → (content_at (format_of a.vault).content v (a.root ++ at)).ending ≡ Whole }
-    ensures small { (rule : NameMap) (from to : OpenedVault) (v : View) (at : Path) → HasOwnFolders from.vault (under from.root v) → HasSmallContents (tree_in from v) → ¬ PassesLimit rule from to v at }
+    ensures whole { (a : OpenedVault) (v : View) (path : plain.Path) (at : Path) → HasSmallContents (tree_at a v) → standing (format_of a.vault) (under a.root v) path ≡ File at → (content_at (format_of a.vault).content v (a.root ++ at)).ending ≡ Whole }
+    ensures small { (rule : NameMap) (from to : OpenedVault) (v : View) (at : Path) → HasOwnFolders from.vault (under from.root v) → HasSmallContents (tree_at from v) → ¬ PassesLimit rule from to v at }
 {
     files_are_not_much_longer();
     files_have_their_contents();

@@ -24,7 +24,7 @@ ghost use Rattle.migrate_core.specs.Moving.{MovesBeside};
 ghost use Rattle.migrate_core.specs.Written.{WritesBy, lacked};
 ghost use Rattle.migrate_core.specs.Sharing.{IsFilled, Lacks, SharesFrom};
 ghost use Rattle.migrate_core.specs.Sides.{AllowsEach, AllowsLast, IsItemOf, IsMappedWalk, StandAll, StandsIn, new_journal};
-ghost use Rattle.migration_sides.specs.Sides.{AreSeparate};
+ghost use Rattle.folder_spec.specs.Apart.{AreSeparate};
 
 use crate::fault::MoveFault;
 use folder_model::{FPath, Folder};

@@ -19,7 +19,8 @@ ghost use Rattle.migrate_core.specs.Moved.{done_of, Moved, MovesTold, MovesTree,
 ghost use Rattle.migrate_core.specs.Moving.{MovesOnly};
 ghost use Rattle.migrate_core.specs.Written.{MayWrite, MayWriteTold, MayWriteTree, WritesBeside, WritesBy, lacked};
 ghost use Rattle.migrate_core.specs.Sides.{AllowsEach, AreItemsToMove, AreTold, IsInUse, IsMappedWalk};
-ghost use Rattle.migration_sides.specs.Sides.{AreSeparate, IsWalked};
+ghost use Rattle.migration_sides.specs.Sides.{IsWalked};
+ghost use Rattle.folder_spec.specs.Apart.{AreSeparate};
 ghost use Rattle.migration_sides.specs.Tests.{all_pass, nothing_follows};
 ghost use Rattle.migration_sides.specs.Unchanged.{ChangesNothing};
 ghost use Rattle.tree_match.specs.Mapping.{IsMappedPlan};

@@ -23,7 +23,7 @@ use Rattle.vault_spec.specs.Vault.{Cryptomator, Gocryptfs, LoadRefusal, Loads, V
 use Rattle.vault_walk.specs.Surveyed.{IsPlanOf, IsWithin}
 use Rattle.vault_walk.specs.declared.fault.WalkFault.{WalkFault}
 use Rattle.vault_walk.specs.declared.fault.WalkFault.TheVariants as walk
-use Rattle.work_folder.specs.Apart.{AreApart}
+use Rattle.folder_spec.specs.Apart.{AreApart}
 use Rattle.work_folder.specs.Entries.{HasNoForeign}
 use Rattle.work_folder.specs.Looking.{TestsEntries}
 use Rattle.work_folder.specs.declared.fault.WorkFault.{WorkFault}

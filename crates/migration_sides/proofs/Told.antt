@@ -26,7 +26,8 @@ use Rattle.work_folder.specs.declared.fault.WorkFault.TheVariants as works
 use Rattle.migration_sides.proofs.Chains.{part_refused, passed_is, then_passes}
 use Rattle.migration_sides.specs.Causes.{Opens, Refuses, TestsApart, Unless, Walks, WalksBoth, of_refusal}
 use Rattle.migration_sides.specs.Faults.{of_walk}
-use Rattle.migration_sides.specs.Sides.{AreSeparate, opened_in}
+use Rattle.migration_sides.specs.Sides.{opened_in}
+use Rattle.folder_spec.specs.Apart.{AreSeparate}
 use Rattle.migration_sides.specs.Tests.{Then, UnlessBy, nothing_follows, own}
 use Rattle.migration_sides.specs.declared.fault.Side.{Side}
 use Rattle.migration_sides.specs.declared.fault.Side.TheVariants.{Source, Target}

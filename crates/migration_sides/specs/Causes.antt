@@ -3,7 +3,7 @@ use Rattle.std.specs.Prelude.{◌++◌, ℕ, List, Result, Ok, Err}
 use Rattle.folder_spec.specs.Path.{Path}
 use Rattle.folder_spec.specs.Seen.{under}
 use Rattle.folder_spec.specs.View.{View}
-use Rattle.work_folder.specs.Apart.{AreApart}
+use Rattle.folder_spec.specs.Apart.{AreApart}
 use Rattle.migration_sides.specs.Faults.{of_walk}
 use Rattle.migration_sides.specs.Sides.{opened_in}
 use Rattle.migration_sides.specs.Tests.{PassesOr, Then, UnlessBy, own}

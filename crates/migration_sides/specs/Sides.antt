@@ -5,7 +5,6 @@ use Rattle.folder_spec.specs.Path.{Path}
 use Rattle.folder_spec.specs.Seen.{IfSeen, under}
 use Rattle.folder_spec.specs.View.{NoEntry, View}
 use Rattle.folder_staging.specs.Removal.{deepest}
-use Rattle.work_folder.specs.Apart.{AreApart}
 use Rattle.plain_tree.specs.declared.NodeKind.TheVariants.{File}
 use Rattle.vault_read.specs.Laws.{HasOwnFolders}
 use Rattle.vault_spec.specs.Opened.{OpenedVault}
@@ -14,12 +13,6 @@ use Rattle.vault_spec.specs.Plan.{Planned}
 use Rattle.vault_spec.specs.Vault.{Vault, format_of}
 use Rattle.vault_walk.specs.Survey.{IsOrdered, item_limit}
 use Rattle.vault_walk.specs.Surveyed.{IsPlanOf}
-
--- none of the three folders overlaps another
-pub record AreSeparate (from to through : Path) : Type 0 where
-  pub vaults : AreApart from to
-  pub source : AreApart from through
-  pub target : AreApart to through
 
 abbrev pub opened_in : Path → Vault → OpenedVault
 opened_in root vault = record { root = root; vault = vault }

@@ -3,9 +3,9 @@ ghost use Rattle.std.specs.Prelude.{◌≡◌, ◌≤◌, IfErr, IfOk, OnOk, Ok}
 ghost use Rattle.folder_spec.specs.Seen.{IfSeen, under};
 ghost use Rattle.migration_sides.specs.Causes.{Opens, Refuses, of_refusal, TestsApart, TestsPair, Unless, Walks, WalksBoth};
 ghost use Rattle.migration_sides.specs.Faults.{IsBlamed, of_walk};
-ghost use Rattle.migration_sides.specs.Sides.{AreSeparate, IsWalked};
+ghost use Rattle.migration_sides.specs.Sides.{IsWalked};
+ghost use Rattle.folder_spec.specs.Apart.{AreSeparate, AreApart};
 ghost use Rattle.migration_sides.specs.Tests.{Then, nothing_follows, own};
-ghost use Rattle.work_folder.specs.Apart.{AreApart};
 ghost use Rattle.port_model.specs.Counts.{CountRose};
 ghost use Rattle.vault_spec.specs.Vault.{IsVault, Loads};
 

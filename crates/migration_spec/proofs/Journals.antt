@@ -25,7 +25,7 @@ use Rattle.migration_spec.proofs.Guards.{holds_alike, RootsAreAlike, ImagesShow,
 use Rattle.migration_spec.proofs.Kept.{behind_none, only_shown, table_work, kept_is, alone_by, case_in, none_foreign}
 use Rattle.migration_spec.specs.Alone.{Progress, Unbegun, Begun, Finished, IsIn, IsAlone, StaysGuarded}
 use Rattle.migration_spec.specs.Guard.{Migration, IsSeparate, IsThere, HoldsSource, HoldsAll, IsNotBegun, IsBuilding, HasJournal, Tells, IsWork, is_kept, Guarded, old_path}
-use Rattle.work_folder.specs.Apart.{AreApart}
+use Rattle.folder_spec.specs.Apart.{AreApart}
 use Rattle.mapped_trees.specs.Trees.{AllowsTree, StaysApart}
 use Rattle.vault_spec.specs.Opens.{tree}
 use Rattle.vault_spec.specs.Vault.{format_of}

@@ -13,7 +13,7 @@ use Rattle.folder_spec.specs.declared.Kind.TheVariants as kind
 use Rattle.migration_spec.proofs.Guards.{or_cases, in_source, RootsAreAlike, ImagesShow, guarded_by, kinds_of, kinds_of_image}
 use Rattle.migration_spec.specs.Alone.{Progress, Unbegun, Begun, Finished, IsIn, IsAlone}
 use Rattle.migration_spec.specs.Guard.{Migration, IsSeparate, HoldsSource, Case, NotBegun, Building, Done, Retired, has_old, IsWork, kinds_in, IsGuarded, Guarded, is_kept}
-use Rattle.work_folder.specs.Apart.{AreApart}
+use Rattle.folder_spec.specs.Apart.{AreApart}
 use Rattle.content_writing.specs.Making.{is_inside, is_staged}
 use Rattle.work_folder.specs.Entries.{journal_path, is_foreign}
 use Rattle.folder_spec.proofs.Stages.{at_itself}

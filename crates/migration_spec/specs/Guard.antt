@@ -28,7 +28,7 @@ use Rattle.vault_spec.specs.Vault.{format_of, IsVault}
 use Rattle.vault_walk.specs.Digest.{plan_digest}
 use Rattle.content_writing.specs.Making.{is_inside}
 use Rattle.content_writing.specs.Trees.{ShowsVault}
-use Rattle.work_folder.specs.Apart.{AreApart}
+use Rattle.folder_spec.specs.Apart.{AreSeparate}
 use Rattle.work_folder.specs.Entries.{journal_path, stage_path, is_foreign}
 
 -- from one vault into another, through a work folder and by a rule for names; and the tree that the source held when it began
@@ -40,10 +40,8 @@ pub record Migration : Type 0 where
   pub held : Tree
 
 -- the three folders don't overlap
-pub record IsSeparate (g : Migration) : Type 0 where
-  pub vaults : AreApart g.source.root g.target.root
-  pub source : AreApart g.source.root g.work
-  pub target : AreApart g.target.root g.work
+abbrev pub IsSeparate : Migration → Type 0
+IsSeparate g = AreSeparate g.source.root g.target.root g.work
 
 -- what opens in the vault
 abbrev pub tree_at : OpenedVault → View → Tree

@@ -5,7 +5,8 @@ use Rattle.folder_spec.specs.View.{Found, NoEntry, Folder, FileOf, Special, View
 use Rattle.move_journal.specs.declared.journal.Journal.{Journal}
 use Rattle.move_journal.specs.declared.journal.JournalFault.{JournalFault}
 use Rattle.move_journal.specs.Journal.{InSecond, IsJournal, journal_text}
-use Rattle.move_journal.specs.Reading.{ReadsAs, StandsIn, file_bytes, journal_bytes, journal_path}
+use Rattle.move_journal.specs.Reading.{ReadsAs, StandsIn, file_bytes, journal_bytes}
+use Rattle.work_folder.specs.Entries.{journal_path}
 use Rattle.move_journal.specs.Writing.{GivesBack}
 
 abbrev pub HaveOneJournal : Type 0

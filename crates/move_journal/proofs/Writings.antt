@@ -16,8 +16,9 @@ use Rattle.folder_spec.proofs.Stages.{Replacing, puts_spare, replacing_none}
 use Rattle.folder_staging.specs.Places.{MayPublish}
 use Rattle.move_journal.specs.declared.journal.Journal.{Journal}
 use Rattle.move_journal.specs.Journal.{journal_text}
-use Rattle.move_journal.specs.Reading.{journal_path, journal_bytes, file_bytes}
-use Rattle.move_journal.specs.Writing.{IsWorkFolder, IsWriting, IsWritten, Writes, HasWritten, new_journal_path, elsewhere}
+use Rattle.move_journal.specs.Reading.{journal_bytes, file_bytes}
+use Rattle.work_folder.specs.Entries.{journal_path, new_journal_path}
+use Rattle.move_journal.specs.Writing.{IsWorkFolder, IsWriting, IsWritten, Writes, HasWritten, elsewhere}
 
 apart : (work : Path) → below (new_journal_path work) (journal_path work) ≡ None
 apart work = below-sibling work _ _ refl

@@ -1,17 +1,15 @@
 -- What reading a journal answers.
-use Rattle.std.specs.Prelude.{◌≡◌, ℕ, ◌<◌, ◌≤◌, List, length, codes, Option, Some, None, Result, Ok, Err}
+use Rattle.std.specs.Prelude.{◌≡◌, ℕ, ◌<◌, ◌≤◌, List, length, Option, Some, None, Result, Ok, Err}
 use Rattle.folder_spec.specs.declared.FolderFault.{FolderFault}
 use Rattle.folder_spec.specs.declared.FolderFault.TheVariants as folder
-use Rattle.folder_spec.specs.Path.{Path, child}
+use Rattle.folder_spec.specs.Path.{Path}
 use Rattle.folder_spec.specs.View.{Found, NoEntry, Folder, FileOf, Special, View}
 use Rattle.move_journal.specs.declared.journal.Journal.{Journal}
 use Rattle.move_journal.specs.declared.journal.JournalFault.{JournalFault}
 use Rattle.move_journal.specs.declared.journal.JournalFault.TheVariants.{NoJournal, BadJournal, TooLarge, Failed, NoMemory}
 use Rattle.move_journal.specs.Journal.{IsJournal, IsTextOf}
 use Rattle.move_journal.specs.Lines.{IsBadLine}
-
-abbrev pub journal_path : Path → Path
-journal_path work = child work (codes "journal")
+use Rattle.work_folder.specs.Entries.{journal_path}
 
 -- the bytes of the file that is found, if one is
 abbrev pub file_bytes : Found → Option (List ℕ)

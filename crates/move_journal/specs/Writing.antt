@@ -1,7 +1,7 @@
 -- What writing a journal leaves behind.
-use Rattle.std.specs.Prelude.{◌≡◌, List, [], ◌∷◌, ℕ, Bool, codes, Option, Some, Result, Ok, Err}
+use Rattle.std.specs.Prelude.{◌≡◌, List, [], ◌∷◌, ℕ, Bool, Option, Some, Result, Ok, Err}
 use Rattle.folder_spec.specs.declared.Spot.TheVariants.{Nothing}
-use Rattle.folder_spec.specs.Path.{Path, child}
+use Rattle.folder_spec.specs.Path.{Path}
 use Rattle.folder_spec.specs.State.{State, present}
 use Rattle.folder_spec.specs.Event.{Told, FromTo}
 use Rattle.folder_spec.specs.Image.{Image, IsImage}
@@ -16,11 +16,8 @@ use Rattle.move_journal.specs.declared.journal.Journal.{Journal}
 use Rattle.move_journal.specs.declared.journal.JournalFault.{JournalFault}
 use Rattle.move_journal.specs.declared.journal.JournalFault.TheVariants.{NoJournal, BadJournal, TooLarge, Failed, NoMemory}
 use Rattle.move_journal.specs.Journal.{journal_text}
-use Rattle.move_journal.specs.Reading.{journal_path, journal_bytes}
-
--- where a journal is written before it is put in its place
-abbrev pub new_journal_path : Path → Path
-new_journal_path work = child work (codes "journal.new")
+use Rattle.move_journal.specs.Reading.{journal_bytes}
+use Rattle.work_folder.specs.Entries.{journal_path, new_journal_path}
 
 -- the view shows the work folder, as a journal can be written in it
 pub record IsWorkFolder (v : View) (work : Path) : Type 0 where

@@ -2,7 +2,7 @@
 use Rattle.folder_spec.specs.Path.{Path}
 use Rattle.migrate_core.specs.declared.fault.MoveFault.{MoveFault}
 use Rattle.migrate_core.specs.declared.fault.MoveFault.TheVariants as move
-use Rattle.move_journal.specs.Reading.{journal_path}
+use Rattle.work_folder.specs.Entries.{journal_path}
 use Rattle.move_journal.specs.declared.journal.JournalFault.{JournalFault}
 use Rattle.move_journal.specs.declared.journal.JournalFault.TheVariants as journal
 use Rattle.retire_core.specs.declared.fault.RetireFault.{RetireFault}

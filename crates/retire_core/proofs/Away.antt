@@ -18,7 +18,7 @@ use Rattle.migration_spec.proofs.Guards.{ImagesShow, RootsAreAlike}
 use Rattle.migration_spec.proofs.Kept.{behind_none, turned, beside_both}
 use Rattle.migration_spec.specs.Alone.{StaysGuarded}
 use Rattle.migration_spec.specs.Guard.{Guarded, Migration, old_path}
-use Rattle.work_folder.specs.Apart.{AreApart}
+use Rattle.folder_spec.specs.Apart.{AreApart}
 use Rattle.retire_core.proofs.Cleared.{isnt_eq, seen_then}
 use Rattle.retire_core.proofs.Renamed.{HasNoSpecial, moved_guarded, moved_settled}
 use Rattle.retire_core.specs.Clearing.{IsGone, IsInOrder, MovesAway, MovesOnly}

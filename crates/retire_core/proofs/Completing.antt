@@ -30,7 +30,7 @@ use Rattle.tree_match.proofs.Passing.{NoneMeet, TellsTree, compares_met, each_fi
 use Rattle.tree_match.specs.Comparing.{Stops, content_at}
 use Rattle.migration_spec.specs.Guard as guard
 use Rattle.migration_spec.specs.Guard.{AreOpenedBy, Case, HasJournal, IsDone, IsWork, LastJournal, Migration, Stands, Gone, has_old, has_old_by, kinds_in, old_path, tree_at}
-use Rattle.work_folder.specs.Apart.{AreApart}
+use Rattle.folder_spec.specs.Apart.{AreApart}
 use Rattle.tree_match.specs.Mapping.{IsMappedPlan, MapsTo}
 use Rattle.tree_match.specs.Matching.{matched, where_of}
 use Rattle.tree_match.specs.Trees.{Compares, HoldsAllOrTooLong, IsMappedWalkOf, IsWalkOf, match_of, side_of, tree_of}

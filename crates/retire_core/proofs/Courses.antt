@@ -18,7 +18,7 @@ use Rattle.move_journal.specs.Reading.{StandsIn}
 use Rattle.migration_spec.proofs.Guards.{ImagesShow, RootsAreAlike}
 use Rattle.migration_spec.specs.Alone.{KeepsGuarded}
 use Rattle.migration_spec.specs.Guard.{Guarded, Migration, old_path}
-use Rattle.work_folder.specs.Apart.{AreApart}
+use Rattle.folder_spec.specs.Apart.{AreApart}
 use Rattle.vault_write.proofs.Runs.{went_with}
 use Rattle.work_folder.specs.Entries.{HasNoForeign, is_foreign, journal_path}
 use Rattle.work_folder.specs.Looking.{TestsEntries}

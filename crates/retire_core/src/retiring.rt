@@ -3,11 +3,10 @@ ghost use Rattle.std.specs.Prelude.{◌≡◌, ◌≢◌, ◌⊎◌, ◌≤◌, 
 ghost use Rattle.port_model.specs.Counts.{CountRose};
 ghost use Rattle.folder_spec.specs.Seen.{IfSeen, IsSeen, moved_view};
 ghost use Rattle.folder_spec.specs.View.{Folder, NoEntry, View};
-ghost use Rattle.migration_sides.specs.Sides.{AreSeparate};
+ghost use Rattle.folder_spec.specs.Apart.{AreSeparate, AreApart};
 ghost use Rattle.migration_sides.specs.Unchanged.{ChangesNothing};
 ghost use Rattle.migration_spec.specs.Alone.{KeepsGuarded};
 ghost use Rattle.migration_spec.specs.Guard.{AreOpenedBy, Migration, old_path};
-ghost use Rattle.work_folder.specs.Apart.{AreApart};
 ghost use Rattle.move_journal.specs.Journal.{IsJournal};
 ghost use Rattle.move_journal.specs.Reading.{StandsIn};
 ghost use Rattle.retire_core.specs.Causes.{IsOfFolder, PassesTests, ReadsDone, Retires, RetiresTold, TestsAway, TestsFree, TestsHeld, Unless, moved_away};

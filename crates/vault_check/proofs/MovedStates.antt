@@ -12,7 +12,8 @@ use Rattle.folder_spec.specs.Moments.{Went}
 use Rattle.folder_spec.proofs.Tables.{present_is_table, last_of-push, among-push}
 use Rattle.folder_spec.proofs.Moments.{went_nowhere, went_on, went_by_call, went_more, went_to}
 use Rattle.folder_spec.proofs.Tellings.{at_told, from_to_more, from_to_on}
-use Rattle.vault_check.specs.Repairing.{AreApart, AreMovable, HasMoved, HasMovedSome, IsMoving, Moves, MovesInto, place_of}
+use Rattle.vault_check.specs.Repairing.{AreMovable, HasMoved, HasMovedSome, IsMoving, Moves, MovesInto, place_of}
+use Rattle.folder_spec.specs.Apart.{AreApart}
 use Rattle.vault_check.proofs.MovedTables.{apart_by, bare_itself, may_move, moved_none, moved_one_more, moved_since}
 
 module _ (lost : Path) (strays : List Path) where
@@ -192,7 +193,7 @@ module _ (lost : Path) (strays : List Path) where
   movable_then t u h movable = record {
     stand = λ at found.
         let aside : AreApart lost at = movable.aside at found in
-        ((movable.stand at found).0, λ none. (movable.stand at found).1 (sym (h.others at (apart_by lost at aside.apart)) ∙ none));
+        ((movable.stand at found).0, λ none. (movable.stand at found).1 (sym (h.others at (apart_by lost at aside.one)) ∙ none));
     aside = movable.aside;
     apart = movable.apart;
   }

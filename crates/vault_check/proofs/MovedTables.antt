@@ -15,7 +15,8 @@ use Rattle.folder_spec.specs.Region.{apart_from}
 use Rattle.folder_spec.proofs.Paths.{below-append, begins_or_not, parent-child, below-sibling, below-both, below-apart}
 use Rattle.folder_spec.proofs.Tables.{put-same, put-other, moved-new, moved-old, moved-other}
 use Rattle.folder_spec.proofs.Edits.{nothing_below_file}
-use Rattle.vault_check.specs.Repairing.{AreApart, HasMoved, is_gone, place_of}
+use Rattle.vault_check.specs.Repairing.{HasMoved, is_gone, place_of}
+use Rattle.folder_spec.specs.Apart.{AreApart}
 
 -- ---- paths
 
@@ -56,8 +57,8 @@ other_number m k few less same = let one : m + 1 ≡ k + 1 = decimal_injective (
 
 places_aside : (lost : Path) (m k : ℕ) → m < 2 ^ 63 → k < m → AreApart (place_of lost m) (place_of lost k)
 places_aside lost m k few less = record {
-  apart = below-sibling lost (decimal (m + 1)) (decimal (k + 1)) (unequal _ _ (other_number m k few less));
-  beside = below-sibling lost (decimal (k + 1)) (decimal (m + 1)) (unequal _ _ (λ same. other_number m k few less (sym same)));
+  one = below-sibling lost (decimal (m + 1)) (decimal (k + 1)) (unequal _ _ (other_number m k few less));
+  other = below-sibling lost (decimal (k + 1)) (decimal (m + 1)) (unequal _ _ (λ same. other_number m k few less (sym same)));
 }
 
 -- ---- what is gone
@@ -79,7 +80,7 @@ pub not_gone : (gone : List Path) (s rest : Path) → ((g : Path) → Contains g
 not_gone [] s rest aside = refl
 not_gone (g ∷ gone) s rest aside =
     let here : AreApart g s = aside g (0, omega arith, refl) in
-    rw (below-apart g s rest here.apart here.beside)
+    rw (below-apart g s rest here.one here.other)
     (not_gone gone s rest (λ h found. aside h (suc found.0, (let less : found.0 < length gone = found.1 in omega (arith, less)), found.2)))
 
 or_true : (b : Bool) → (b || true) ≡ true
@@ -109,14 +110,14 @@ module _ (lost : Path) (u : Table) where
     after = moved t s (place_of lost (length gone))
 
     not_below_s : (a : Part) (rest : Path) → below s (lost ++ a ∷ rest) ≡ None
-    not_below_s a rest = below-apart s lost (a ∷ rest) aside.beside aside.apart
+    not_below_s a rest = below-apart s lost (a ∷ rest) aside.other aside.one
 
     -- and it may be
     pub may_move : s ≢ [] → u s ≢ Nothing → AllowedIn t (Rename s (place_of lost (length gone)))
     may_move some stands =
         let a : Part = decimal (length gone + 1) in
         let here : t s ≡ u s =
-        ap t (sym (append-nil s)) ∙ h.others (s ++ []) (apart_by lost (s ++ []) (below-apart lost s [] aside.apart aside.beside))
+        ap t (sym (append-nil s)) ∙ h.others (s ++ []) (apart_by lost (s ++ []) (below-apart lost s [] aside.one aside.other))
         ∙ ap (λ b. cond b Nothing (u (s ++ []))) (not_gone gone s [] others) ∙ ap u (append-nil s) in (
           some,
           λ none. stands (sym here ∙ none),
@@ -126,7 +127,7 @@ module _ (lost : Path) (u : Table) where
 
     pub moved_one_more : HasMoved lost (gone ++ s ∷ []) (moved t s (place_of lost (length gone))) u
     moved_one_more = record {
-      folder = moved-other t s (place_of lost (length gone)) lost (longer_not lost (decimal (length gone + 1))) aside.beside ∙ h.folder;
+      folder = moved-other t s (place_of lost (length gone)) lost (longer_not lost (decimal (length gone + 1))) aside.other ∙ h.folder;
       moved = by_place;
       alone = alone;
       others = elsewhere;
@@ -137,7 +138,7 @@ module _ (lost : Path) (u : Table) where
           where
             at : (k ≡ length gone) ⊎ (k ≢ length gone) → moved t s (place_of lost (length gone)) (place_of lost k ++ rest) ≡ u (get_or (gone ++ s ∷ []) k [] ++ rest)
             at (inl same) =
-                let there : below lost (s ++ rest) ≡ None = below-apart lost s rest aside.apart aside.beside in
+                let there : below lost (s ++ rest) ≡ None = below-apart lost s rest aside.one aside.other in
                 ap (λ j. moved t s (place_of lost (length gone)) (place_of lost j ++ rest)) same
                 ∙ moved-new t s (place_of lost (length gone)) rest
                 ∙ h.others (s ++ rest) (apart_by lost (s ++ rest) there)
@@ -148,7 +149,7 @@ module _ (lost : Path) (u : Table) where
                 let before : k < length gone = omega (arith, less, size, other) in
                 let places : AreApart (place_of lost (length gone)) (place_of lost k) = places_aside lost (length gone) k few before in
                 moved-other t s (place_of lost (length gone)) (place_of lost k ++ rest)
-                (below-apart (place_of lost (length gone)) (place_of lost k) rest places.apart places.beside)
+                (below-apart (place_of lost (length gone)) (place_of lost k) rest places.one places.other)
                 (ap (below s) (append_assoc lost (decimal (k + 1) ∷ []) rest) ∙ not_below_s (decimal (k + 1)) rest)
                 ∙ h.moved k before rest
                 ∙ ap (λ p. u (p ++ rest)) (sym (get_or-append gone (s ∷ []) [] k before))
@@ -190,7 +191,7 @@ moved_since lost gone t w u aside made h = record {
   moved = λ k less rest.
       let s = get_or gone k [] in
       let apart : AreApart lost s = aside s (Contains-get_or gone k [] less) in
-      h.moved k less rest ∙ made.others (s ++ rest) (apart_by lost (s ++ rest) (below-apart lost s rest apart.apart apart.beside));
+      h.moved k less rest ∙ made.others (s ++ rest) (apart_by lost (s ++ rest) (below-apart lost s rest apart.one apart.other));
   alone = h.alone;
   others = λ q apart. h.others q apart ∙ ap (λ x. cond (is_gone gone q) Nothing x) (made.others q apart);
 }

@@ -20,7 +20,8 @@ use Rattle.vault_keys.specs.declared.keys.GoKeys.{GoKeys}
 use Rattle.vault_spec.specs.Gocryptfs.{go_format}
 use Rattle.vault_spec.specs.Vault.{Vault, Gocryptfs, Cryptomator, format_of}
 use Rattle.vault_read.specs.Laws as read
-use Rattle.vault_check.specs.Repairing.{AreApart, AreMoved, AreStraysBehind, HasMoved, HasMovedSome, IsRepairing, Unchanged, Moving, behind, is_gone}
+use Rattle.vault_check.specs.Repairing.{AreMoved, AreStraysBehind, HasMoved, HasMovedSome, IsRepairing, Unchanged, Moving, behind, is_gone}
+use Rattle.folder_spec.specs.Apart.{AreApart}
 use Rattle.vault_check.proofs.Contained.{first_or_later, further, none_within}
 use Rattle.vault_check.proofs.MovedTables.{apart_by}
 
@@ -95,7 +96,7 @@ module _ (root lost : Path) (apart : AreApart root lost) (f : Format) (alone : S
   cut_by : (t : Table) (gone : List Path) → HasMoved lost (behind root gone) t (present s0) → view_at t ≡ cut (is_gone gone) (under root (seen s0))
   cut_by t gone h = fun_ext (λ rest.
       let here : t (root ++ rest) ≡ cond (is_gone gone rest) Nothing (present s0 (root ++ rest)) =
-      h.others (root ++ rest) (apart_by lost (root ++ rest) (below-apart lost root rest apart.beside apart.apart))
+      h.others (root ++ rest) (apart_by lost (root ++ rest) (below-apart lost root rest apart.other apart.one))
       ∙ ap (λ b. cond b Nothing (present s0 (root ++ rest))) (gone_behind root gone rest) in
       ap (found bytes) here ∙ by_gone (is_gone gone rest) (present s0 (root ++ rest)))
     where

@@ -18,7 +18,8 @@ use Rattle.folder_spec.proofs.Seen.{free_seen}
 use Rattle.folder_spec.proofs.Tellings.{from_to_both, from_to_more, from_to_same}
 use Rattle.vault_spec.specs.Format.{Format}
 use Rattle.vault_spec.specs.Moving.{IsStray, StraysGoAlone}
-use Rattle.vault_check.specs.Repairing.{AreApart, AreMovable, AreMoved, AreStraysBehind, HasRepaired, IsMoving, IsRepairing, Unchanged, Moving, MayMoveTo, Moves, MovesInto, RepairsAt}
+use Rattle.vault_check.specs.Repairing.{AreMovable, AreMoved, AreStraysBehind, HasRepaired, IsMoving, IsRepairing, Unchanged, Moving, MayMoveTo, Moves, MovesInto, RepairsAt}
+use Rattle.folder_spec.specs.Apart.{AreApart}
 use Rattle.vault_spec.proofs.Mapped.{all_pairs_mapped, mapped_from}
 
 none_or : (w q : Path) → ((rest : Path) → q ≡ w ++ rest → ⊥) → below w q ≡ None
@@ -27,10 +28,10 @@ none_or w q apart = elim (begins_or_not w q) as (λ _. below w q ≡ None) [ inl
 module _ (root lost : Path) (f : Format) (alone : StraysGoAlone f) (v : View) (may : MayMoveTo v root lost) where
   stray_aside : (p : Path) → AreApart lost (root ++ p)
   stray_aside p = record {
-    apart = below-apart lost root p may.apart.beside may.apart.apart;
-    beside = none_or (root ++ p) lost (λ more is.
+    one = below-apart lost root p may.apart.other may.apart.one;
+    other = none_or (root ++ p) lost (λ more is.
         let there : below root lost ≡ Some (p ++ more) = ap (below root) (is ∙ append_assoc root p more) ∙ below-append root (p ++ more) in
-        let none = may.apart.apart in cc);
+        let none = may.apart.one in cc);
   }
 
   module _ (paths : List Path) (are : AreStraysBehind root f (under root v) paths) where
@@ -55,8 +56,8 @@ module _ (root lost : Path) (f : Format) (alone : StraysGoAlone f) (v : View) (m
             let two : Contains are.strays (get_or are.strays j d) = Contains-get_or are.strays j d less in
             let up : path_cmp (get_or are.strays i d) (get_or are.strays j d) ≡ Less = are.are.ordered i j d below_ less in
             record {
-              apart = below-both root (get_or are.strays i d) (get_or are.strays j d) ∙ not_below_other (get_or are.strays i d) (get_or are.strays j d) one two (λ tied. let clash : Less ≡ Equal = sym up ∙ tied in cc);
-              beside = below-both root (get_or are.strays j d) (get_or are.strays i d) ∙ not_below_other (get_or are.strays j d) (get_or are.strays i d) two one
+              one = below-both root (get_or are.strays i d) (get_or are.strays j d) ∙ not_below_other (get_or are.strays i d) (get_or are.strays j d) one two (λ tied. let clash : Less ≡ Equal = sym up ∙ tied in cc);
+              other = below-both root (get_or are.strays j d) (get_or are.strays i d) ∙ not_below_other (get_or are.strays j d) (get_or are.strays i d) two one
                   (λ tied. let clash : Less ≡ Equal = sym up ∙ (lists_total nat_list_cmp_total).antisymm (get_or are.strays i d) (get_or are.strays j d) ∙ ap ordering_reverse tied in cc);
             }
 

@@ -1,5 +1,5 @@
 -- Moving strays out of a vault into a folder of lost ones, one by one, each under its number there.
-use Rattle.std.specs.Prelude.{◌≡◌, ◌≢◌, ◌⊎◌, ◌<◌, ◌≤◌, ◌+◌, ◌++◌, ◌∷◌, [], ℕ, Bool, List, map, length, take, slice_index_or, Option, None, is_some, IsTrue, if◌then◌else◌, AllPairs, Contains}
+use Rattle.std.specs.Prelude.{◌≡◌, ◌≢◌, ◌⊎◌, ◌<◌, ◌≤◌, ◌+◌, ◌++◌, ◌∷◌, [], ℕ, Bool, List, map, length, take, slice_index_or, Option, is_some, IsTrue, if◌then◌else◌, AllPairs, Contains}
 use Rattle.std.specs.Fmt.{decimal}
 use Rattle.std.specs.List.{list_any}
 use Rattle.folder_spec.specs.declared.Spot.TheVariants.{Nothing, Directory}
@@ -7,16 +7,12 @@ use Rattle.folder_spec.specs.Path.{Part, Path, below, child}
 use Rattle.folder_spec.specs.State.{Table, State, present, IsTableOf}
 use Rattle.folder_spec.specs.Event.{Call, MakeDir, Create, Append, Sync, Settle, Rename, RemoveFile, RemoveDir, Told}
 use Rattle.folder_spec.specs.Moments.{Moments}
+use Rattle.folder_spec.specs.Apart.{AreApart}
 use Rattle.folder_spec.specs.Region.{apart_from}
 use Rattle.folder_spec.specs.Seen.{ShowsFree, seen, under}
 use Rattle.folder_spec.specs.View.{View}
 use Rattle.vault_spec.specs.Format.{Format}
 use Rattle.vault_check.specs.Strays.{AreOuterStrays}
-
--- neither path begins the other
-pub record AreApart (one other : Path) : Type 0 where
-  pub apart : below one other ≡ None
-  pub beside : below other one ≡ None
 
 -- strays of a vault at the root can be moved there: nothing is there, and a directory is above it
 pub record MayMoveTo (v : View) (root lost : Path) : Type 0 where

@@ -10,7 +10,8 @@ ghost use Rattle.vault_spec.specs.Adding.{OpensAs};
 ghost use Rattle.vault_spec.specs.Moving.{IsStray};
 ghost use Rattle.vault_spec.specs.Vault.{format_of};
 ghost use Rattle.vault_read.specs.Laws.{HasOwnFolders};
-ghost use Rattle.vault_check.specs.Repairing.{AreApart, AreMoved, IsRepairing};
+ghost use Rattle.vault_check.specs.Repairing.{AreMoved, IsRepairing};
+ghost use Rattle.folder_spec.specs.Apart.{AreApart};
 
 use vault_read::Vault;
 use vault_read::laws::strays_go_alone;

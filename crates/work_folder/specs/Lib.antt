@@ -1,4 +1,3 @@
-pub mod Apart
 pub mod Entries
 pub mod Looking
 pub mod Picking

@@ -8,10 +8,9 @@ use Rattle.migrate_core.specs.Moving.{MovesOnly}
 use Rattle.migrate_core.specs.Sides.{IsAsked}
 use Rattle.migration_sides.proofs.Told.{both_open, opens_passes, opens_refused, separate_pass, work_refused}
 use Rattle.migration_sides.specs.Causes.{Opens}
-use Rattle.migration_sides.specs.Sides.{AreSeparate}
-use Rattle.migration_sides.specs.Tests.{all_pass}
+use Rattle.folder_spec.specs.Apart.{AreSeparate}
+use Rattle.migration_sides.specs.Tests.{all_pass, Then}
 use Rattle.migration_sides.proofs.Unchanged.{tested_on}
-use Rattle.migration_sides.specs.Tests.{Then}
 use Rattle.migrate_core.proofs.Blaming.{step_begins}
 use Rattle.migrate_core.proofs.Movings.{moves_nowhere}
 use Rattle.migrate_core.proofs.Planned.{seen_of}

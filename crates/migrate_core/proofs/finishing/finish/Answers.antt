@@ -4,7 +4,7 @@ use Rattle.migration_spec.specs.Alone.{Finished}
 use Rattle.migrate_core.specs.declared.fault.MoveFault.{MoveFault}
 use Rattle.migrate_core.proofs.Endings.{finish_goes, has_moved}
 use Rattle.migrate_core.proofs.Leadings.{goes_failed, refused_nowhere}
-use Rattle.migrate_core.proofs.Movings.{mapped_walk, moves_nowhere}
+use Rattle.migrate_core.proofs.Movings.{mapped_walk, moves_nowhere, source_stays, turned_over}
 use Rattle.migrate_core.specs.Leading.{Goes, progress_of}
 use Rattle.migrate_core.specs.Moving.{MovesOnly}
 use Rattle.migrate_core.specs.Sides.{AreItemsToMove, IsMappedWalk}
@@ -20,14 +20,13 @@ use Rattle.migrate_core.specs.Causes.{nothing_stops}
 use Rattle.migrate_core.specs.Copying.{CopiesAll, HasCopied}
 use Rattle.migrate_core.proofs.Limits.{ends_uncompared}
 use Rattle.migrate_core.proofs.Copyings.{copied_as}
-use Rattle.migrate_core.proofs.Movings.{source_stays, turned_over}
 use Rattle.migrate_core.specs.Limits.{EndsBy}
 use Rattle.migrate_core.proofs.Sharing.{whichever_taken}
 use Rattle.migrate_core.proofs.finishing.finish.Goals as goal
 use Rattle.migration_sides.proofs.Chains.{fault_as, refused_as}
 use Rattle.migrate_core.proofs.Tested.{step_tested}
 use Rattle.folder_spec.specs.Path.{Path}
-use Rattle.work_folder.specs.Apart.{AreApart}
+use Rattle.folder_spec.specs.Apart.{AreApart}
 
 pub returns-in_err-target-clause-guard : goal.returns-in_err-target-clause-guard
 returns-in_err-target-clause-guard g c m sides tells =

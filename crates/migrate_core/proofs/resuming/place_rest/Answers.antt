@@ -7,18 +7,17 @@ use Rattle.work_folder.specs.Entering.{IsReady, Empties, IsBelowStage, IsStage}
 use Rattle.work_folder.specs.Entries.{stage_path}
 use Rattle.migrate_core.specs.Leading.{progress_of}
 use Rattle.migrate_core.specs.Moving.{MovesOnly}
-use Rattle.migration_sides.specs.Sides.{AreSeparate}
+use Rattle.folder_spec.specs.Apart.{AreSeparate}
 use Rattle.migrate_core.specs.Sides.{AreItemsToMove, StandAll}
 use Rattle.migrate_core.proofs.Leadings.{alone_goes, goes_failed, then_known}
 use Rattle.migrate_core.proofs.Movings.{moves_on, items_stay}
 use Rattle.migrate_core.proofs.Restaged.{rest_goes, stage_alone, stage_apart, stage_stays, still_known, stage_readied}
-use Rattle.migrate_core.proofs.WorkFolders.{staging_has, work_folder_stays}
+use Rattle.migrate_core.proofs.WorkFolders.{staging_has, work_folder_stays, journal_stays}
 use Rattle.folder_spec.specs.Seen.{IfSeen}
-use Rattle.migrate_core.proofs.WorkFolders.{journal_stays}
 use Rattle.migrate_core.proofs.Endings.{if_ok_more}
 use Rattle.migrate_core.specs.Moved.{Moved, lacking, done_of}
 use Rattle.migrate_core.specs.Causes.{IsOfMoving, Moves, Unless, StopsAt, StopsSeen}
-use Rattle.migrate_core.specs.Copying.{HasCopied, HaveOwnFolders}
+use Rattle.migrate_core.specs.Copying.{HasCopied, HaveOwnFolders, CopiesAll, StayGood}
 use Rattle.migrate_core.specs.Faults.{of_work}
 use Rattle.migrate_core.proofs.Writings.{changing_writes, nothing_yet, only_more, texts_then}
 use Rattle.migrate_core.specs.Written.{BringsOnlyTo, WritesBy, lacked, WritesBeside}
@@ -26,7 +25,6 @@ use Rattle.move_journal.specs.Journal.{journal_text}
 use Rattle.move_journal.specs.Reading.{StandsIn}
 use Rattle.migrate_core.proofs.Blaming.{blamed_later}
 use Rattle.migrate_core.proofs.Limits.{ends_more, ends_uncompared}
-use Rattle.migrate_core.specs.Copying.{CopiesAll, StayGood}
 use Rattle.migrate_core.specs.Limits.{EndsBy}
 use Rattle.migrate_core.specs.Sharing.{IsFilled, SharesFrom}
 use Rattle.migrate_core.proofs.resuming.place_rest.Given.{Over}

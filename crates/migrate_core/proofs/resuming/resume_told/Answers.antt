@@ -5,7 +5,7 @@ use Rattle.migrate_core.specs.Leading.{Guards, progress_of}
 use Rattle.migrate_core.specs.Moving.{MovesOnly}
 use Rattle.migration_sides.proofs.Told.{both_open, opens_passes, opens_refused}
 use Rattle.migration_sides.specs.Causes.{Opens}
-use Rattle.migration_sides.specs.Sides.{AreSeparate}
+use Rattle.folder_spec.specs.Apart.{AreSeparate}
 use Rattle.migration_sides.specs.Tests.{all_pass}
 use Rattle.migration_sides.proofs.Unchanged.{tested_on}
 use Rattle.migrate_core.proofs.Blaming.{step_resumes}

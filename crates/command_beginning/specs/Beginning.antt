@@ -33,11 +33,15 @@ OfSite change v answer next =
     OfPassFile change.target.pass (v change.target.pass) (refused answer) (λ phrase.
     OfWork v change.work answer (OfVault v change.target.vault phrase (refused answer) next))
 
+-- nothing but the work folder is changed, at every moment
+abbrev pub ChangesOnlyWork : Path → Option Told → Option Told → Type 0
+ChangesOnlyWork work = Moments (IsAsBefore (apart_from work)) (λ s0 s e. Spares (apart_from work) e.call)
+
 -- The call ended before it came to the making, with an answer of its own: nothing but the work folder is changed, at every moment, and
 -- nothing is drawn or taken of the input.
 pub record EndsBefore (is_own : Answer → Bool) (work : Path) (answer : Answer) (before after : World) : Type 0 where
   pub own : IsTrue (is_own answer)
-  pub moments : Moments (IsAsBefore (apart_from work)) (λ s0 s e. Spares (apart_from work) e.call) before.told after.told
+  pub moments : ChangesOnlyWork work before.told after.told
   pub undrawn : Draws before.random after.random []
   pub untouched : Keeps before.left after.left
 

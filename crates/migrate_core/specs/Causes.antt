@@ -181,7 +181,7 @@ BeginsApart rule from to work from_pass to_pass v =
 abbrev pub Begins : {Y : Type 0} → NameMap → (from to work : Path) (from_pass to_pass : List ℕ) → View → Answer Y → Type 0
 Begins rule from to work from_pass to_pass v = Then of_step (TestsApart from to work) (λ _. BeginsApart rule from to work from_pass to_pass v)
 
--- all of these tests pass
+-- All of these tests pass, in this order.
 pub record PassesBegin (rule : NameMap) (from to work : Path) (from_pass to_pass : List ℕ) (v : View) : Type 0 where
   pub apart : TestsApart from to work (Ok tt)
   pub folder : Tests v work (Ok tt)
@@ -194,7 +194,7 @@ TestsItems from to journal v items there next =
     Then own (TestsTold journal items) (λ _.
     TestsMapped journal.names (format_of to.vault) items (λ mapped. TestsMatch to there from mapped v (next mapped)))
 
--- those of `resume` of two opened vaults: both are clean
+-- those of `resume` of two opened vaults: both are clean, and the items that the walks gave pass theirs
 abbrev pub TestsToResume : {Y : Type 0} → OpenedVault → OpenedVault → Journal → View → (List Planned → Answer Y → Type 0) → Answer Y → Type 0
 TestsToResume from to journal v next = WalksBoth of_step from to v (λ items there. TestsItems from to journal v items there next)
 
@@ -218,17 +218,30 @@ Resumes work from_pass to_pass v =
     Then of_step (TestsApart journal.source journal.target work) (λ _.
     Then of_work (TestsEntries (is_done journal.phase) v work) (λ _. ResumesTold work from_pass to_pass v journal)))
 
--- all of these tests pass, and those behind the tests of the work folder
+-- those behind the tests of the work folder pass
 pub record PassesTold (work : Path) (from_pass to_pass : List ℕ) (journal : Journal) (v : View) : Type 0 where
   pub source : TestsSource journal.phase work journal.source v (Ok tt)
   pub vaults : Opens of_step v journal.source journal.target from_pass to_pass (λ source target. TestsToResume source target journal v all_pass) (Ok tt)
 
+-- All of these tests pass, in this order.
 pub record PassesResume (work : Path) (from_pass to_pass : List ℕ) (v : View) : Type 0 where
   pub journal : Journal
   pub reads : ReadsAs (journal_bytes v work) (Ok journal)
   pub apart : TestsApart journal.source journal.target work (Ok tt)
   pub entries : TestsEntries (is_done journal.phase) v work (Ok tt)
   pub told : PassesTold work from_pass to_pass journal v
+
+-- what may be answered once the tests have passed
+abbrev pub IsOfPlacing : MoveFault → Type 0
+IsOfPlacing (Unread fault) = ⊥
+IsOfPlacing (Overlap p q) = ⊥
+IsOfPlacing (Load side fault) = ⊥
+IsOfPlacing (NotEmpty at) = ⊥
+IsOfPlacing (NotAllowed path) = ⊥
+IsOfPlacing (Meet one other) = ⊥
+IsOfPlacing (Changed plan items plan' items') = ⊥
+IsOfPlacing SourceGone = ⊥
+IsOfPlacing fault = Unit {0}
 
 -- ---- refusals of a part (private contracts only)
 

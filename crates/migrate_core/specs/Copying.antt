@@ -1,5 +1,4 @@
 -- A target that the items of the source are copied into, as it is seen between two of them.
-use Rattle.migration_spec.specs.Guard.{tree_at}
 use Rattle.std.specs.Prelude.{◌≡◌, ◌≢◌, ◌⊎◌, ◌++◌, ◌∷◌, [], ℕ, List, Contains, Ok, Option}
 use Rattle.folder_spec.specs.Event.{Told}
 use Rattle.folder_spec.specs.Seen.{IfSeen, IsSeen, under}
@@ -17,6 +16,7 @@ use Rattle.vault_spec.specs.Staying.{LoadsAlike}
 use Rattle.vault_spec.specs.Tidy.{IsTidy}
 use Rattle.vault_spec.specs.Vault.{format_of}
 use Rattle.vault_walk.specs.Surveyed.{IsWithin}
+use Rattle.migration_spec.specs.Guard.{tree_at}
 use Rattle.content_writing.specs.Trees.{ShowsVault}
 
 -- no two directories of either vault share a folder

@@ -7,7 +7,7 @@ ghost use Rattle.migration_spec.specs.Alone.{KeepsGuarded, Finished, Unbegun};
 ghost use Rattle.migration_spec.specs.Guard.{AreOpenedBy, Migration};
 ghost use Rattle.vault_spec.specs.Vault.{format_of};
 ghost use Rattle.work_folder.specs.Entering.{Empties, EntersAs};
-ghost use Rattle.migrate_core.specs.Causes.{Begins, BeginsApart, BeginsWith, Moves, PassesBegin, TestsEmpty, TestsToBegin, Unless};
+ghost use Rattle.migrate_core.specs.Causes.{Begins, BeginsApart, BeginsWith, IsOfPlacing, Moves, PassesBegin, TestsEmpty, TestsToBegin, Unless};
 ghost use Rattle.migrate_core.specs.Completing.{CanBegin, IsOfChance};
 ghost use Rattle.migrate_core.specs.Copying.{MayBegin, StayGood};
 ghost use Rattle.migrate_core.specs.Faults.{Blamed, IsOfTest, is_of_begin};
@@ -71,7 +71,7 @@ pub fn begin<F: Folder, R: Randoms>(
     ensures blamed { IfErr result (Blamed is_of_begin (CountRose (F.faults folder.old) (F.faults folder.new)) (CountRose (R.faults random.old) (R.faults random.new))) }
     ensures cause { IfSeen (F.told folder.old) (λ v. Unless result (Begins names source.now target.now work.now source_pass.now target_pass.now v result)) }
     ensures written { IfSeen (F.told folder.old) (λ v. MayWriteTree result names source.now target.now work.now source_pass.now target_pass.now (R.left random.old) (R.left random.new) (F.told folder.old) (F.told folder.new)) }
-    ensures tested { ChangesNothing (F.told folder.old) (F.told folder.new) ⊎ IfSeen (F.told folder.old) (λ v. PassesBegin names source.now target.now work.now source_pass.now target_pass.now v) }
+    ensures tested { ChangesNothing (F.told folder.old) (F.told folder.new) ⊎ IfSeen (F.told folder.old) (λ v. IfErr result IsOfPlacing × PassesBegin names source.now target.now work.now source_pass.now target_pass.now v) }
     ensures completes { (g : Migration) → IfSeen (F.told folder.old) (λ v. IsAsked g names source.now target.now work.now → AreOpenedBy g source_pass.now target_pass.now v → CanBegin g v → IfErr result IsOfChance) }
     ensures too_long { IfErr result (IsOfLimit (PassesInTree names source.now target.now source_pass.now target_pass.now (F.told folder.old) (F.told folder.new))) }
     ensures shared { IfErr result (IsOfTaken (SharesInTree names source.now target.now source_pass.now target_pass.now (R.left random.old) (R.left random.new) (F.told folder.old) (F.told folder.new))) }
@@ -120,7 +120,7 @@ fn begin_settled<F: Folder, R: Randoms>(
     ensures too_long { IfErr result (IsOfLimit (PassesInTree names source.now target.now source_pass.now target_pass.now (F.told folder.old) (F.told folder.new))) }
     ensures shared { IfErr result (IsOfTaken (SharesInTree names source.now target.now source_pass.now target_pass.now (R.left random.old) (R.left random.new) (F.told folder.old) (F.told folder.new))) }
     ensures written { IfSeen (F.told folder.old) (λ v. MayWriteTree result names source.now target.now work.now source_pass.now target_pass.now (R.left random.old) (R.left random.new) (F.told folder.old) (F.told folder.new)) }
-    ensures tested { (F.told folder.new ≡ F.told folder.old) ⊎ IfSeen (F.told folder.old) (λ v. PassesBegin names source.now target.now work.now source_pass.now target_pass.now v) }
+    ensures tested { (F.told folder.new ≡ F.told folder.old) ⊎ IfSeen (F.told folder.old) (λ v. IfErr result IsOfPlacing × PassesBegin names source.now target.now work.now source_pass.now target_pass.now v) }
 {
     draws_compose();
     roots_have_one_answer();
@@ -160,7 +160,7 @@ fn begin_with<F: Folder, R: Randoms>(
     ensures cause { IfSeen (F.told folder.old) (λ v. Unless result (BeginsWith sides.now.names sides.now.source sides.now.target work.now v result)) }
     ensures ends { EndsBy (StayGood sides.now.source sides.now.target (F.told folder.old) (F.told folder.new)) (SharesWhereTidy sides.now.names sides.now.source sides.now.target (R.left random.old) (R.left random.new) (F.told folder.old) (F.told folder.new)) sides.now.names sides.now.source sides.now.target (F.told folder.new) result }
     ensures written { MayWrite result sides.now.names sides.now.source sides.now.target work.now (R.left random.old) (R.left random.new) (F.told folder.old) (F.told folder.new) }
-    ensures tested { (F.told folder.new ≡ F.told folder.old) ⊎ IfSeen (F.told folder.old) (λ v. TestsToBegin sides.now.names sides.now.source sides.now.target v all_pass (Ok tt)) }
+    ensures tested { (F.told folder.new ≡ F.told folder.old) ⊎ IfSeen (F.told folder.old) (λ v. IfErr result IsOfPlacing × TestsToBegin sides.now.names sides.now.source sides.now.target v all_pass (Ok tt)) }
 {
     draws_compose();
     walks_tell_the_tree();

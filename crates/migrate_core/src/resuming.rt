@@ -9,7 +9,7 @@ ghost use Rattle.migration_spec.specs.Alone.{KeepsGuarded, Finished};
 ghost use Rattle.migration_spec.specs.Guard.{AreOpenedBy, Migration};
 ghost use Rattle.vault_spec.specs.Vault.{format_of};
 ghost use Rattle.work_folder.specs.Entering.{Empties};
-ghost use Rattle.migrate_core.specs.Causes.{Moves, PassesResume, PassesTold, Refuses, Resumes, ResumesTold, ResumesWith, TestsItems, TestsMatch, TestsSource, TestsToResume, TestsTold, Unless, is_done, where_in};
+ghost use Rattle.migrate_core.specs.Causes.{IsOfPlacing, Moves, PassesResume, PassesTold, Refuses, Resumes, ResumesTold, ResumesWith, TestsItems, TestsMatch, TestsSource, TestsToResume, TestsTold, Unless, is_done, where_in};
 ghost use Rattle.migrate_core.specs.Completing.{CanResume, IsOfChance};
 ghost use Rattle.migrate_core.specs.Copying.{MayBegin, StayGood};
 ghost use Rattle.migrate_core.specs.Faults.{Blamed, IsOfTest, is_of_resume};
@@ -68,7 +68,7 @@ pub fn resume<F: Folder, R: Randoms>(
     ensures blamed { IfErr result (Blamed is_of_resume (CountRose (F.faults folder.old) (F.faults folder.new)) (CountRose (R.faults random.old) (R.faults random.new))) }
     ensures cause { IfSeen (F.told folder.old) (λ v. Unless result (Resumes work.now source_pass.now target_pass.now v result)) }
     ensures written { IfSeen (F.told folder.old) (λ v. MayWriteTold result work.now source_pass.now target_pass.now (R.left random.old) (R.left random.new) (F.told folder.old) (F.told folder.new) v) }
-    ensures tested { ChangesNothing (F.told folder.old) (F.told folder.new) ⊎ IfSeen (F.told folder.old) (λ v. PassesResume work.now source_pass.now target_pass.now v) }
+    ensures tested { ChangesNothing (F.told folder.old) (F.told folder.new) ⊎ IfSeen (F.told folder.old) (λ v. IfErr result IsOfPlacing × PassesResume work.now source_pass.now target_pass.now v) }
     ensures completes { (g : Migration) → IfSeen (F.told folder.old) (λ v. g.work ≡ work.now → AreOpenedBy g source_pass.now target_pass.now v → CanResume g v → IfErr result IsOfChance) }
     ensures too_long { IfSeen (F.told folder.old) (λ v. IfErr result (IsOfLimit (PassesAsTold work.now source_pass.now target_pass.now (F.told folder.old) (F.told folder.new) v))) }
 {
@@ -98,7 +98,7 @@ fn resume_settled<F: Folder, R: Randoms>(
     ensures cause { IfSeen (F.told folder.old) (λ v. Unless result (Resumes work.now source_pass.now target_pass.now v result)) }
     ensures too_long { IfSeen (F.told folder.old) (λ v. IfErr result (IsOfLimit (PassesAsTold work.now source_pass.now target_pass.now (F.told folder.old) (F.told folder.new) v))) }
     ensures written { IfSeen (F.told folder.old) (λ v. MayWriteTold result work.now source_pass.now target_pass.now (R.left random.old) (R.left random.new) (F.told folder.old) (F.told folder.new) v) }
-    ensures tested { (F.told folder.new ≡ F.told folder.old) ⊎ IfSeen (F.told folder.old) (λ v. PassesResume work.now source_pass.now target_pass.now v) }
+    ensures tested { (F.told folder.new ≡ F.told folder.old) ⊎ IfSeen (F.told folder.old) (λ v. IfErr result IsOfPlacing × PassesResume work.now source_pass.now target_pass.now v) }
 {
     draws_compose();
     journals_are_read_back();
@@ -148,7 +148,7 @@ fn resume_told<F: Folder, R: Randoms>(
     ensures cause { IfSeen (F.told folder.old) (λ v. Unless result (ResumesTold work.now source_pass.now target_pass.now v journal result)) }
     ensures too_long { IfErr result (IsOfLimit (PassesInTree journal.names journal.source journal.target source_pass.now target_pass.now (F.told folder.old) (F.told folder.new))) }
     ensures written { IfSeen (F.told folder.old) (λ v. MayWriteTree result journal.names journal.source journal.target work.now source_pass.now target_pass.now (R.left random.old) (R.left random.new) (F.told folder.old) (F.told folder.new)) }
-    ensures tested { (F.told folder.new ≡ F.told folder.old) ⊎ IfSeen (F.told folder.old) (λ v. PassesTold work.now source_pass.now target_pass.now journal v) }
+    ensures tested { (F.told folder.new ≡ F.told folder.old) ⊎ IfSeen (F.told folder.old) (λ v. IfErr result IsOfPlacing × PassesTold work.now source_pass.now target_pass.now journal v) }
 {
     draws_compose();
     journals_are_read_back();
@@ -212,7 +212,7 @@ fn resume_with<F: Folder, R: Randoms>(
     ensures cause { IfSeen (F.told folder.old) (λ v. Unless result (ResumesWith sides.now.source sides.now.target work.now journal v result)) }
     ensures ends { EndsBy (StayGood sides.now.source sides.now.target (F.told folder.old) (F.told folder.new)) (Unit {0}) sides.now.names sides.now.source sides.now.target (F.told folder.new) result }
     ensures written { IfSeen (F.told folder.old) (λ v. MayWrite result journal.names sides.now.source sides.now.target work.now (R.left random.old) (R.left random.new) (F.told folder.old) (F.told folder.new)) }
-    ensures tested { (F.told folder.new ≡ F.told folder.old) ⊎ IfSeen (F.told folder.old) (λ v. TestsToResume sides.now.source sides.now.target journal v all_pass (Ok tt)) }
+    ensures tested { (F.told folder.new ≡ F.told folder.old) ⊎ IfSeen (F.told folder.old) (λ v. IfErr result IsOfPlacing × TestsToResume sides.now.source sides.now.target journal v all_pass (Ok tt)) }
 {
     draws_compose();
     walks_tell_the_tree();

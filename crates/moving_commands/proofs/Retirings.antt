@@ -1,5 +1,5 @@
 -- A source that is retired: what was done where the command wasn't begun, and how it is answered.
-use Rattle.std.proofs.Common.{◌≡◌, ℕ, List, Option, Some, Ok, Err, inl, inr, refl, sym, ap, ◌∙◌, subst, IsTrue, ◌⊎◌}
+use Rattle.std.proofs.Common.{◌≡◌, ℕ, List, Option, Some, Ok, Err, inl, inr, refl, sym, ap, ◌∙◌, subst, IsTrue, ◌⊎◌, IfErr}
 use Rattle.std.specs.Prelude.{◌≢◌, MatchResult}
 use Rattle.std.proofs.lemmas.Bool.{or_left}
 use Rattle.std.proofs.KnownBytes.{Keeps-refl}
@@ -14,7 +14,7 @@ use Rattle.move_journal.specs.declared.journal.JournalFault.TheVariants as journ
 use Rattle.retire_core.specs.Causes.{IsOfFolder, PassesTests, ReadsDone}
 use Rattle.retire_core.specs.Causes as tests
 use Rattle.retire_core.specs.Completing.{CanRetire}
-use Rattle.retire_core.specs.Faults.{of_journal}
+use Rattle.retire_core.specs.Faults.{of_journal, IsOfRemoval}
 use Rattle.retire_core.specs.Retiring.{RemovesOnly, TouchesOnly, retiring_by}
 use Rattle.retire_core.specs.declared.fault.RetireFault.{RetireFault}
 use Rattle.retire_core.specs.declared.fault.RetireFault.TheVariants as faults
@@ -56,13 +56,13 @@ module _ (resuming : Resuming) where
   pub touches_since : (told mid told' : Option Told) (v : View) (source_pass target_pass : List ℕ) (outcome : Outcome) → mid ≡ told → IsSeen told v
       → OfJournal resuming.work mid (λ journal. TouchesOnly (retiring_by resuming.work source_pass target_pass journal) mid told')
       → OfJournal resuming.work mid (λ journal. RemovesOnly (retiring_by resuming.work source_pass target_pass journal) mid told')
-      → (ChangesNothing mid told') ⊎ (IfSeen mid (λ w. PassesTests resuming.work source_pass target_pass w))
+      → (ChangesNothing mid told') ⊎ (IfSeen mid (λ w. IfErr outcome IsOfRemoval × PassesTests resuming.work source_pass target_pass w))
       → TouchesNoMore resuming told told' v source_pass target_pass outcome
   touches_since told mid told' v source_pass target_pass outcome same seen touches removes tested = record {
     touches = λ journal. journal_since resuming.work (λ j t. TouchesOnly (retiring_by resuming.work source_pass target_pass j) t told') told mid same touches v journal seen;
     removes = λ journal. journal_since resuming.work (λ j t. RemovesOnly (retiring_by resuming.work source_pass target_pass j) t told') told mid same removes v journal seen;
-    tested = subst (λ t. ChangesNothing t told' ⊎ PassesTests resuming.work source_pass target_pass v) same
-        (tested_seen mid told' (λ w. PassesTests resuming.work source_pass target_pass w) v (subst (λ t. IsSeen t v) (sym same) seen) tested);
+    tested = subst (λ t. ChangesNothing t told' ⊎ (IfErr outcome IsOfRemoval × PassesTests resuming.work source_pass target_pass v)) same
+        (tested_seen mid told' (λ w. IfErr outcome IsOfRemoval × PassesTests resuming.work source_pass target_pass w) v (subst (λ t. IsSeen t v) (sym same) seen) tested);
   }
 
   pub retire_stopped : (answer : Answer) (told told' : Option Told) (taken : Option (List ℕ)) → IsTrue (is_of_refusal answer) → IfSeen told (λ v. MayCome resuming answer told told' v)

@@ -5,7 +5,7 @@ use Rattle.folder_spec.specs.Event.{Told}
 use Rattle.folder_spec.specs.Path.{Path}
 use Rattle.folder_spec.specs.Seen.{IfSeen, under}
 use Rattle.folder_spec.specs.View.{View}
-use Rattle.migrate_core.specs.Causes.{Begins, PassesBegin, Unless}
+use Rattle.migrate_core.specs.Causes.{Begins, IsOfPlacing, PassesBegin, Unless}
 use Rattle.migrate_core.specs.Completing.{CanBegin}
 use Rattle.migrate_core.specs.Limits.{IsOfLimit, PassesInTree}
 use Rattle.migrate_core.specs.Moved.{MovesTree}
@@ -66,16 +66,16 @@ root_of moving fault = moving.source
 abbrev pub IsRootOf : Moving → MoveFault → Path → Type 0
 IsRootOf moving fault root = root ≡ root_of moving fault
 
--- Why `begin` comes to what it comes to under these passphrases, by what is seen at first; and what it draws and writes. Where it answers
--- that a compared content passes the limit, it does so. Nothing is changed unless all tests pass.
+-- why `begin` comes to what it comes to under these passphrases, by what is seen at first
 abbrev pub IsCaused : Moving → View → List ℕ → List ℕ → Outcome → Type 0
 IsCaused moving v source_pass target_pass outcome = Unless outcome (Begins moving.names moving.source moving.target moving.work source_pass target_pass v outcome)
 
-abbrev pub IsWritten : Moving → Option Told → Option Told → Option ByteStream → Option ByteStream → View → List ℕ → List ℕ → Outcome → Type 0
-IsWritten moving told told' stream stream' v source_pass target_pass outcome =
-    MayWriteTree outcome moving.names moving.source moving.target moving.work source_pass target_pass stream stream' told told'
-    × IfErr outcome (IsOfLimit (PassesInTree moving.names moving.source moving.target source_pass target_pass told told'))
-    × (ChangesNothing told told' ⊎ PassesBegin moving.names moving.source moving.target moving.work source_pass target_pass v)
+-- What it draws and writes. Where it answers that a compared content passes the limit, it does so; and nothing is changed unless all its
+-- tests pass, of which none is the answer then.
+pub record IsWritten (moving : Moving) (told told' : Option Told) (stream stream' : Option ByteStream) (v : View) (source_pass target_pass : List ℕ) (outcome : Outcome) : Type 0 where
+  pub writes : MayWriteTree outcome moving.names moving.source moving.target moving.work source_pass target_pass stream stream' told told'
+  pub too_long : IfErr outcome (IsOfLimit (PassesInTree moving.names moving.source moving.target source_pass target_pass told told'))
+  pub tested : ChangesNothing told told' ⊎ (IfErr outcome IsOfPlacing × PassesBegin moving.names moving.source moving.target moving.work source_pass target_pass v)
 
 abbrev pub ComesTo : Moving → (Outcome → Type 0) → Option Told → Option Told → Option ByteStream → Option ByteStream → View → Type 0
 ComesTo moving IsAnswered told told' stream stream' v = Comes moving.passes (IsCaused moving v) (IsWritten moving told told' stream stream' v) IsAnswered v

@@ -5,7 +5,7 @@ use Rattle.folder_spec.specs.Event.{Told}
 use Rattle.folder_spec.specs.Path.{Path}
 use Rattle.folder_spec.specs.Seen.{IfSeen, IsSeen}
 use Rattle.folder_spec.specs.View.{View}
-use Rattle.migrate_core.specs.Causes.{PassesResume, Unless}
+use Rattle.migrate_core.specs.Causes.{IsOfPlacing, PassesResume, Unless}
 use Rattle.migrate_core.specs.Causes as causes
 use Rattle.migrate_core.specs.Completing.{CanResume}
 use Rattle.migrate_core.specs.Limits.{IsOfLimit, PassesAsTold}
@@ -61,16 +61,16 @@ abbrev pub unopened : MoveFault → Option Side
 unopened (Load side fault) = Some side
 unopened fault = None
 
--- Why `resume` comes to what it comes to under these passphrases, by what is seen at first; and what it draws and writes. Where it answers
--- that a compared content passes the limit, it does so. Nothing is changed unless all tests pass.
+-- why `resume` comes to what it comes to under these passphrases, by what is seen at first
 abbrev pub IsCaused : Resuming → View → List ℕ → List ℕ → Outcome → Type 0
 IsCaused resuming v source_pass target_pass outcome = Unless outcome (causes.Resumes resuming.work source_pass target_pass v outcome)
 
-abbrev pub IsWritten : Resuming → Option Told → Option Told → Option ByteStream → Option ByteStream → View → List ℕ → List ℕ → Outcome → Type 0
-IsWritten resuming told told' stream stream' v source_pass target_pass outcome =
-    MayWriteTold outcome resuming.work source_pass target_pass stream stream' told told' v
-    × IfErr outcome (IsOfLimit (PassesAsTold resuming.work source_pass target_pass told told' v))
-    × (ChangesNothing told told' ⊎ PassesResume resuming.work source_pass target_pass v)
+-- What it draws and writes. Where it answers that a compared content passes the limit, it does so; and nothing is changed unless all its
+-- tests pass, of which none is the answer then.
+pub record IsWritten (resuming : Resuming) (told told' : Option Told) (stream stream' : Option ByteStream) (v : View) (source_pass target_pass : List ℕ) (outcome : Outcome) : Type 0 where
+  pub writes : MayWriteTold outcome resuming.work source_pass target_pass stream stream' told told' v
+  pub too_long : IfErr outcome (IsOfLimit (PassesAsTold resuming.work source_pass target_pass told told' v))
+  pub tested : ChangesNothing told told' ⊎ (IfErr outcome IsOfPlacing × PassesResume resuming.work source_pass target_pass v)
 
 abbrev pub ComesTo : Resuming → (Outcome → Type 0) → Option Told → Option Told → Option ByteStream → Option ByteStream → View → Type 0
 ComesTo resuming IsAnswered told told' stream stream' v = Comes resuming.passes (IsCaused resuming v) (IsWritten resuming told told' stream stream' v) IsAnswered v

@@ -1,5 +1,5 @@
 -- `retire`: removing the source of a finished migration, and its work folder.
-use Rattle.std.specs.Prelude.{◌⊎◌, ◌++◌, ◌∷◌, [], ℕ, Bool, ◌||◌, List, codes, decimal, IsTrue, Option, Some, None, Result}
+use Rattle.std.specs.Prelude.{◌⊎◌, ◌++◌, ◌∷◌, [], ℕ, Bool, ◌||◌, List, codes, decimal, IfErr, IsTrue, Option, Some, None, Result}
 use Rattle.std.specs.Io.KnownBytes.{Keeps}
 use Rattle.folder_spec.specs.Event.{Told}
 use Rattle.folder_spec.specs.Path.{Path}
@@ -11,6 +11,7 @@ use Rattle.move_journal.specs.Reading.{StandsIn}
 use Rattle.retire_core.specs.Causes.{PassesTests, Unless}
 use Rattle.retire_core.specs.Causes as causes
 use Rattle.retire_core.specs.Completing.{CanRetire}
+use Rattle.retire_core.specs.Faults.{IsOfRemoval}
 use Rattle.retire_core.specs.Retiring.{HasRetired, RemovesOnly, TouchesOnly, retiring_by}
 use Rattle.retire_core.specs.declared.fault.RetireFault.{RetireFault}
 use Rattle.retire_core.specs.declared.fault.RetireFault.TheVariants.{Load}
@@ -50,11 +51,11 @@ abbrev pub IsCaused : Resuming → View → List ℕ → List ℕ → Outcome �
 IsCaused resuming v source_pass target_pass outcome = Unless outcome (causes.Retires resuming.work source_pass target_pass v outcome)
 
 -- The source is touched only by moving it as a whole into the work folder, once the target holds all of it, and removed only then; all
--- else but the work folder stays as it was. Nothing is changed unless all tests pass.
+-- else but the work folder stays as it was. Nothing is changed unless all tests before the removals pass, of which none is the answer then.
 pub record TouchesNoMore (resuming : Resuming) (told told' : Option Told) (v : View) (source_pass target_pass : List ℕ) (outcome : Outcome) : Type 0 where
   pub touches : (journal : Journal) → IsJournal journal → StandsIn resuming.work journal v → TouchesOnly (retiring_by resuming.work source_pass target_pass journal) told told'
   pub removes : (journal : Journal) → IsJournal journal → StandsIn resuming.work journal v → RemovesOnly (retiring_by resuming.work source_pass target_pass journal) told told'
-  pub tested : ChangesNothing told told' ⊎ PassesTests resuming.work source_pass target_pass v
+  pub tested : ChangesNothing told told' ⊎ (IfErr outcome IsOfRemoval × PassesTests resuming.work source_pass target_pass v)
 
 abbrev pub ComesTo : Resuming → (Outcome → Type 0) → Option Told → Option Told → View → Type 0
 ComesTo resuming IsAnswered told told' v = Comes resuming.passes (IsCaused resuming v) (TouchesNoMore resuming told told' v) IsAnswered v

@@ -1,5 +1,5 @@
 -- Why the faults of `retire` may come.
-use Rattle.std.proofs.Common.{IfErr, Ok, ◌≡◌, ◌≤◌, ℕ, Option, Some, Result, Err, refl}
+use Rattle.std.proofs.Common.{IfErr, Ok, ◌≡◌, ◌≤◌, ℕ, Option, Some, Result, Err, inl, inr, refl, subst, sym}
 use Rattle.folder_model.proofs.Counting.{counts_after, counts_at_fault, rose_since}
 use Rattle.folder_model.specs.Answers.{Answers, Counts, CountsAbove}
 use Rattle.folder_spec.specs.declared.FolderFault.{FolderFault}
@@ -16,7 +16,8 @@ use Rattle.migration_sides.specs.declared.fault.StepFault.TheVariants as step
 use Rattle.port_model.specs.Counts.{CountRose}
 use Rattle.vault_read.specs.declared.fault.LoadFault.TheVariants as load
 use Rattle.vault_walk.specs.declared.fault.WalkFault.TheVariants as walk
-use Rattle.retire_core.specs.Faults.{Blamed, IsLaterFault, IsRetireFault, of_folder, of_removal, of_step}
+use Rattle.retire_core.specs.Causes.{IsOfFolder}
+use Rattle.retire_core.specs.Faults.{Blamed, IsLaterFault, IsOfRemoval, IsRetireFault, of_folder, of_removal, of_step}
 use Rattle.retire_core.specs.declared.fault.RetireFault.{RetireFault}
 use Rattle.retire_core.specs.declared.fault.RetireFault.TheVariants as retire
 
@@ -104,3 +105,19 @@ blamed_later before mid after le fault b = record { own = later_own fault b.own;
 pub if_err_both : {T : Type 0} (P Q : RetireFault → Type 0) (result : Result T RetireFault) → ((fault : RetireFault) → P fault → Q fault) → IfErr result P → IfErr result Q
 if_err_both P Q (Ok value) more h = tt
 if_err_both P Q (Err fault) more h = more fault h
+
+-- ---- what removing may answer
+
+pub folder_refused : (fault : FolderFault) → IsOfRemoval (of_folder fault)
+folder_refused folder.Failed = tt
+folder_refused folder.Refused = tt
+folder_refused folder.NoMemory = tt
+
+pub removal_refuses : (fault : RemovalFault) → IsOfRemoval (of_removal fault)
+removal_refuses removal.Depth = tt
+removal_refuses (removal.Other at) = tt
+removal_refuses removal.Failed = tt
+removal_refuses removal.NoMemory = tt
+
+pub folder_removal : (fault : RetireFault) → IsOfFolder fault → IsOfRemoval fault
+folder_removal fault of_folder = elim of_folder [ inl failed ↦ subst IsOfRemoval (sym failed) tt | inr none ↦ subst IsOfRemoval (sym none) tt ]

@@ -124,8 +124,8 @@ Retires work from_pass to_pass v =
     Then of_step (TestsApart journal.source journal.target work) (λ _.
     Then of_work (TestsEntries true v work) (λ _. RetiresTold work from_pass to_pass journal v)))
 
--- All tests pass: the journal says that all is done, the three folders don't overlap, no entry of the work folder is foreign, and the
--- source is gone or may be moved away.
+-- All tests before the removals pass: the journal says that all is done, the three folders don't overlap, no entry of the work folder is
+-- foreign, and the source is gone or may be moved away.
 pub record PassesTests (work : Path) (from_pass to_pass : List ℕ) (v : View) : Type 0 where
   pub journal : Journal
   pub done : ReadsDone work v (Ok journal)

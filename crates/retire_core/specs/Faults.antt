@@ -64,6 +64,14 @@ IsLaterFault (Journal fault) = ⊥
 IsLaterFault Unfinished = ⊥
 IsLaterFault fault = IsRetireFault fault
 
+-- what may be answered once something is moved or removed
+abbrev pub IsOfRemoval : RetireFault → Type 0
+IsOfRemoval (Work (work.Foreign at)) = Unit {0}
+IsOfRemoval Depth = Unit {0}
+IsOfRemoval Failed = Unit {0}
+IsOfRemoval NoMemory = Unit {0}
+IsOfRemoval fault = ⊥
+
 -- of these, and the folder is named as failing only for a reason
 pub record Blamed (Own : RetireFault → Type 0) (folder : Type 0) (fault : RetireFault) : Type 0 where
   pub own : Own fault

@@ -6,7 +6,7 @@ ghost use Rattle.folder_spec.specs.Seen.{IfSeen};
 ghost use Rattle.migration_spec.specs.Guard.{Migration};
 ghost use Rattle.retire_core.specs.Causes.{IsOfFolder, TestsRemoval, TestsRemovals, Unless};
 ghost use Rattle.retire_core.specs.Clearing.{ClearsEntry, ClearsOnly, ClearsRest, HasOnlyJournal, IsGone, IsInOrder, Leaves};
-ghost use Rattle.retire_core.specs.Faults.{Blamed, IsLaterFault};
+ghost use Rattle.retire_core.specs.Faults.{Blamed, IsLaterFault, IsOfRemoval};
 ghost use Rattle.retire_core.specs.Guarding.{KeepsRetiring};
 
 use crate::fault::RetireFault;
@@ -24,6 +24,7 @@ pub(crate) fn clear<F: Folder>(folder: &mut F, work: &FPath) -> Result<(), Retir
     ensures gone { OnOk result (IsGone work.now (F.told folder.new)) }
     ensures grows { F.faults folder.old ≤ F.faults folder.new }
     ensures blamed { IfErr result (Blamed IsLaterFault (CountRose (F.faults folder.old) (F.faults folder.new))) }
+    ensures refused { IfErr result IsOfRemoval }
     ensures cause { IfSeen (F.told folder.old) (λ v. Unless result (TestsRemovals work.now v result)) }
 {
     clear_beside(folder, work)?;
@@ -38,6 +39,7 @@ fn clear_beside<F: Folder>(folder: &mut F, work: &FPath) -> Result<(), RetireFau
     ensures cleared { OnOk result (IfSeen (F.told folder.new) (λ v. HasOnlyJournal v work.now)) }
     ensures grows { F.faults folder.old ≤ F.faults folder.new }
     ensures blamed { IfErr result (Blamed IsLaterFault (CountRose (F.faults folder.old) (F.faults folder.new))) }
+    ensures refused { IfErr result IsOfRemoval }
     ensures cause { IfSeen (F.told folder.old) (λ v. Unless result (TestsRemovals work.now v result)) }
 {
     clear_entry(folder, work, "old")?;
@@ -54,6 +56,7 @@ fn clear_entry<F: Folder>(folder: &mut F, work: &FPath, name: &str) -> Result<()
     ensures gone { OnOk result (IsGone (child work.now name.now) (F.told folder.new)) }
     ensures grows { F.faults folder.old ≤ F.faults folder.new }
     ensures blamed { IfErr result (Blamed IsLaterFault (CountRose (F.faults folder.old) (F.faults folder.new))) }
+    ensures refused { IfErr result IsOfRemoval }
     ensures cause { IfSeen (F.told folder.old) (λ v. Unless result (TestsRemoval (child work.now name.now) v result)) }
 {
     removals_leave_the_rest();

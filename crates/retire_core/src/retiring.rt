@@ -12,7 +12,7 @@ ghost use Rattle.move_journal.specs.Reading.{StandsIn};
 ghost use Rattle.retire_core.specs.Causes.{IsOfFolder, PassesTests, ReadsDone, Retires, RetiresTold, TestsAway, TestsFree, TestsHeld, Unless, moved_away};
 ghost use Rattle.retire_core.specs.Clearing.{IsGone, IsInOrder, MovesHeldOnly, MovesOnly};
 ghost use Rattle.retire_core.specs.Completing.{CanRetire};
-ghost use Rattle.retire_core.specs.Faults.{Blamed, IsLaterFault, IsRetireFault};
+ghost use Rattle.retire_core.specs.Faults.{Blamed, IsLaterFault, IsOfRemoval, IsRetireFault};
 ghost use Rattle.retire_core.specs.Guarding.{ComesFromDone, ComesTo, KeepsDone, KeepsFromRest};
 ghost use Rattle.retire_core.specs.Retiring.{HasRetired, RemovesOnly, TouchesOnly, retiring_by};
 
@@ -60,7 +60,7 @@ pub fn retire<F: Folder>(
     ensures completes { (g : Migration) → IfSeen (F.told folder.old) (λ v. g.work ≡ work.now → AreOpenedBy g source_pass.now target_pass.now v → CanRetire g v → IfErr result IsOfFolder) }
     ensures grows { F.faults folder.old ≤ F.faults folder.new }
     ensures blamed { IfErr result (Blamed IsRetireFault (CountRose (F.faults folder.old) (F.faults folder.new))) }
-    ensures tested { ChangesNothing (F.told folder.old) (F.told folder.new) ⊎ IfSeen (F.told folder.old) (λ v. PassesTests work.now source_pass.now target_pass.now v) }
+    ensures tested { ChangesNothing (F.told folder.old) (F.told folder.new) ⊎ IfSeen (F.told folder.old) (λ v. IfErr result IsOfRemoval × PassesTests work.now source_pass.now target_pass.now v) }
     ensures cause { IfSeen (F.told folder.old) (λ v. Unless result (Retires work.now source_pass.now target_pass.now v result)) }
 {
     settling_and_entering_keep_migrations_guarded();
@@ -85,7 +85,7 @@ fn retire_settled<F: Folder>(
     ensures retired { IfOk result (λ retired. IfSeen (F.told folder.old) (λ v. HasRetired work.now retired.items (F.told folder.new) v)) }
     ensures grows { F.faults folder.old ≤ F.faults folder.new }
     ensures blamed { IfErr result (Blamed IsRetireFault (CountRose (F.faults folder.old) (F.faults folder.new))) }
-    ensures tested { (F.told folder.new ≡ F.told folder.old) ⊎ IfSeen (F.told folder.old) (λ v. PassesTests work.now source_pass.now target_pass.now v) }
+    ensures tested { (F.told folder.new ≡ F.told folder.old) ⊎ IfSeen (F.told folder.old) (λ v. IfErr result IsOfRemoval × PassesTests work.now source_pass.now target_pass.now v) }
     ensures cause { IfSeen (F.told folder.old) (λ v. Unless result (Retires work.now source_pass.now target_pass.now v result)) }
 {
     journals_are_read_back();
@@ -134,7 +134,7 @@ fn retire_told<F: Folder>(
     ensures items { IfOk result (λ retired. retired.items ≡ journal.now.items) }
     ensures grows { F.faults folder.old ≤ F.faults folder.new }
     ensures blamed { IfErr result (Blamed IsLaterFault (CountRose (F.faults folder.old) (F.faults folder.new))) }
-    ensures tested { (F.told folder.new ≡ F.told folder.old) ⊎ IfSeen (F.told folder.old) (λ v. TestsAway work.now source_pass.now target_pass.now journal.now v (Ok tt)) }
+    ensures tested { (F.told folder.new ≡ F.told folder.old) ⊎ IfSeen (F.told folder.old) (λ v. IfErr result IsOfRemoval × TestsAway work.now source_pass.now target_pass.now journal.now v (Ok tt)) }
     ensures cause { IfSeen (F.told folder.old) (λ v. Unless result (RetiresTold work.now source_pass.now target_pass.now journal.now v result)) }
 {
     images_show_views();
@@ -168,7 +168,7 @@ fn put_away<F: Folder>(
     ensures order { OnOk result (IfSeen (F.told folder.new) (λ v. IsInOrder v work.now)) }
     ensures grows { F.faults folder.old ≤ F.faults folder.new }
     ensures blamed { IfErr result (Blamed IsLaterFault (CountRose (F.faults folder.old) (F.faults folder.new))) }
-    ensures tested { (F.told folder.new ≡ F.told folder.old) ⊎ IfSeen (F.told folder.old) (λ v. TestsAway work.now source_pass.now target_pass.now journal.now v (Ok tt)) }
+    ensures tested { (F.told folder.new ≡ F.told folder.old) ⊎ IfSeen (F.told folder.old) (λ v. IfErr result IsOfRemoval × TestsAway work.now source_pass.now target_pass.now journal.now v (Ok tt)) }
     ensures cause { IfSeen (F.told folder.old) (λ v. Unless result (TestsAway work.now source_pass.now target_pass.now journal.now v result)) }
     ensures seen { OnOk result ((v w : View) → IsSeen (F.told folder.old) v → IsSeen (F.told folder.new) w → w ≡ moved_away (v journal.now.source) journal.now.source work.now v) }
 {
@@ -215,7 +215,7 @@ fn move_held<F: Folder>(
     ensures leaves { (v w : View) → IsSeen (F.told folder.old) v → IsSeen (F.told folder.new) w → IsInOrder v work.now → IsInOrder w work.now }
     ensures grows { F.faults folder.old ≤ F.faults folder.new }
     ensures blamed { IfErr result (Blamed IsLaterFault (CountRose (F.faults folder.old) (F.faults folder.new))) }
-    ensures tested { (F.told folder.new ≡ F.told folder.old) ⊎ IfSeen (F.told folder.old) (λ v. TestsHeld journal.now.names journal.now.source journal.now.target source_pass.now target_pass.now v (Ok tt)) }
+    ensures tested { (F.told folder.new ≡ F.told folder.old) ⊎ IfSeen (F.told folder.old) (λ v. IfErr result IsOfRemoval × TestsHeld journal.now.names journal.now.source journal.now.target source_pass.now target_pass.now v (Ok tt)) }
     ensures cause { IfSeen (F.told folder.old) (λ v. Unless result (TestsHeld journal.now.names journal.now.source journal.now.target source_pass.now target_pass.now v result)) }
     ensures seen { OnOk result ((v w : View) → IsSeen (F.told folder.old) v → IsSeen (F.told folder.new) w → w ≡ moved_view v journal.now.source (old_path work.now)) }
 {

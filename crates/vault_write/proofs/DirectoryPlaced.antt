@@ -53,6 +53,7 @@ use Rattle.vault_write.proofs.NewVaults.{is_key}
 use Rattle.vault_write.proofs.Seeing.{if_seen}
 use Rattle.vault_write.proofs.Stages.{left_true, right_true}
 use Rattle.vault_write.proofs.ItemMade.{IsBegun, IsRootFault, RootsShow, makes_named, makes_root, one_ok, one_failed, one_refused}
+use Rattle.vault_write.proofs.Filing.{no_zeros_in_none}
 
 abbrev Stream : Type 0
 Stream = Option ByteStream
@@ -63,17 +64,18 @@ drawn_none (Some stream) = λ place. refl
 
 -- nothing was changed
 pub refused_one : (p : Placing) (drawn : List ℕ) (s s' : Stream) (t u : Option Told) (fault : PutFault) (result : Result (Unit {0}) PutFault)
-    → Draws s s' drawn → length drawn ≤ draws (format p) p.item → (fault ≡ puts.ZeroRandom → DrewZeros (format p).content drawn) → u ≡ t → IfSeen t (λ v. Answers p drawn Whole (under p.vault.root v) (Err fault)) → IsErrAnd result (λ e. e ≡ fault)
+    → Draws s s' drawn → length drawn ≤ draws (format p) p.item → (fault ≡ puts.ZeroRandom → DrewZeros (format p).content drawn) → (fault ≢ puts.ZeroRandom → DrewNoZeros (format p).content drawn) → u ≡ t
+    → IfSeen t (λ v. Answers p drawn Whole (under p.vault.root v) (Err fault)) → IsErrAnd result (λ e. e ≡ fault)
     → PlacesOne p s s' t u result
-refused_one p drawn s s' t u fault result were few zeros same answer by_fault =
+refused_one p drawn s s' t u fault result were few zeros accepted same answer by_fault =
     at_fault (PlacesOne p s s' t u) result fault by_fault
-    (subst (λ x. PlacesOne p s s' t x (Err fault)) (sym same) (record { drawn = drawn; were_drawn = were; one = one_refused New p Whole drawn t fault few zeros answer }))
+    (subst (λ x. PlacesOne p s s' t x (Err fault)) (sym same) (record { drawn = drawn; were_drawn = were; one = one_refused New p Whole drawn t fault few zeros accepted answer }))
 
 -- a call that did the edits failed, or made the item
 module _ (shows : EditsShowTrees) (settles : SettledEditsShowTrees) (roots : RootsShow) (p : Placing) (drawn : List ℕ) (m : Making) (s s' : Stream) (t w : Option Told)
     (begun : (a : Told) → t ≡ Some a → IsBegun p drawn m a) (were : Draws s s' drawn) (size : length drawn ≡ draws (format p) p.item) where
-  pub failed_one : (fault : FolderFault) (result : Result (Unit {0}) PutFault) → FromTo (Edits p.work p.vault.root m) t w → IsErrAnd result (λ e. e ≡ of_folder fault) → PlacesOne p s s' t w result
-  failed_one fault result went by_fault = at_fault (PlacesOne p s s' t w) result (of_folder fault) by_fault (record { drawn = drawn; were_drawn = were; one = one_failed shows settles roots p drawn m t w begun size fault went })
+  pub failed_one : (fault : FolderFault) (result : Result (Unit {0}) PutFault) → DrewNoZeros (format p).content drawn → FromTo (Edits p.work p.vault.root m) t w → IsErrAnd result (λ e. e ≡ of_folder fault) → PlacesOne p s s' t w result
+  failed_one fault result none went by_fault = at_fault (PlacesOne p s s' t w) result (of_folder fault) by_fault (record { drawn = drawn; were_drawn = were; one = one_failed shows settles roots p drawn m t w begun size fault none went })
 
   pub done_one : DrewNoZeros (format p).content drawn → FromTo (Edits p.work p.vault.root m) t w → FromTo (HasFinished p.work p.vault.root m) t w → PlacesOne p s s' t w (Ok tt)
   done_one none went finished = record { drawn = drawn; were_drawn = were; one = one_ok shows settles roots p drawn m t w begun size none went finished }
@@ -131,7 +133,7 @@ key_has_bits keys key size some (suc number) has = let long : 16 * suc (suc numb
 pub go_undrawn : (vault : OpenedVault) → kind_of vault.vault ≡ kind.Gocryptfs → (work : Path) (front : plain.Path) (name : List ℕ) (s s' : Stream) (t u : Option Told) (fault : PutFault) (result : Result (Unit {0}) PutFault)
     → DrawsSome s s' (Err fault) → u ≡ t → IsErrAnd result (λ e. e ≡ fault) → PlacesOne (placing vault work front name NewDirectory) s s' t u result
 go_undrawn vault is work front name s s' t u fault result h same by_fault =
-    refused_one (placing vault work front name NewDirectory) h.drawn s s' t u fault result h.were_drawn (few fault h.drew) (λ is_zero. drew_zeros fault is_zero h.drew) same (λ v seen_so. answer fault (under vault.root v) h.drew) by_fault
+    refused_one (placing vault work front name NewDirectory) h.drawn s s' t u fault result h.were_drawn (few fault h.drew) (λ is_zero. drew_zeros fault is_zero h.drew) (drew_none fault h.drew) same (λ v seen_so. answer fault (under vault.root v) h.drew) by_fault
   where
     few : (fault : PutFault) → SomeDrew h.bytes h.drawn (Err fault) → length h.drawn ≤ 16
     few puts.ZeroRandom k = let size : length h.drawn ≡ 16 = ap length k.0 ∙ h.sizes.size in omega (arith, size)
@@ -142,6 +144,11 @@ go_undrawn vault is work front name s s' t u fault result h same by_fault =
     drew_zeros puts.ZeroRandom same k = (0, record { refused = refuses_zeros vault.vault is; zeros = ap (take 16) (k.0 ∙ zeros_are 16 h.bytes h.sizes.size k.1) }, ap length k.0 ∙ h.sizes.size)
     drew_zeros puts.Random same k = cc same
     drew_zeros fault same k = absurd k
+
+    drew_none : (fault : PutFault) → SomeDrew h.bytes h.drawn (Err fault) → fault ≢ puts.ZeroRandom → DrewNoZeros (format_of vault.vault).content h.drawn
+    drew_none puts.ZeroRandom k other = absurd (other refl)
+    drew_none puts.Random k other = subst (DrewNoZeros (format_of vault.vault).content) (sym k) (no_zeros_in_none (format_of vault.vault).content)
+    drew_none fault k other = absurd k
 
     answer : (fault : PutFault) (v : View) → SomeDrew h.bytes h.drawn (Err fault) → Answers (placing vault work front name NewDirectory) h.drawn Whole v (Err fault)
     answer puts.ZeroRandom v k = drew_zeros puts.ZeroRandom refl k
@@ -207,9 +214,9 @@ is_id id size characters = rw (characters_small id characters, size) refl
 
 -- no id was drawn
 pub undrawn_one : (vault : OpenedVault) (work : Path) (front : plain.Path) (name : List ℕ) (s s' : Stream) (t u : Option Told) (fault : PutFault) (result : Result (Unit {0}) PutFault)
-    → DrewAtMost 16 s s' → (fault ≡ puts.Random) ⊎ (fault ≡ puts.NoMemory) → u ≡ t → IsErrAnd result (λ e. e ≡ fault) → PlacesOne (placing vault work front name NewDirectory) s s' t u result
-undrawn_one vault work front name s s' t u fault result h kinds same by_fault =
-    refused_one (placing vault work front name NewDirectory) h.drawn s s' t u fault result h.were_drawn h.few undrawn same (λ v seen_so. answer (under vault.root v)) by_fault
+    → DrewAtMost 16 s s' → ((drawn : List ℕ) → DrewNoZeros (format_of vault.vault).content drawn) → (fault ≡ puts.Random) ⊎ (fault ≡ puts.NoMemory) → u ≡ t → IsErrAnd result (λ e. e ≡ fault) → PlacesOne (placing vault work front name NewDirectory) s s' t u result
+undrawn_one vault work front name s s' t u fault result h none kinds same by_fault =
+    refused_one (placing vault work front name NewDirectory) h.drawn s s' t u fault result h.were_drawn h.few undrawn (λ other. none h.drawn) same (λ v seen_so. answer (under vault.root v)) by_fault
   where
     undrawn : fault ≡ puts.ZeroRandom → DrewZeros (format_of vault.vault).content h.drawn
     undrawn zeros = elim kinds [

@@ -51,9 +51,9 @@ use Rattle.vault_write.proofs.Begun.{FoldersStand, all_are, all_below}
 use Rattle.vault_write.proofs.Edited.{begun}
 use Rattle.vault_write.proofs.Exits.{at_fault}
 use Rattle.vault_write.proofs.FileBegun.{IsFiled, SlotAt, file_making, file_places, filed_in_cm, filed_in_go, is_begun, opens_whole}
-use Rattle.vault_write.proofs.Filing.{edits_still, placed_still, stops_folder, takes_none, untaken}
+use Rattle.vault_write.proofs.Filing.{edits_still, no_zeros_in_none, placed_still, stops_folder, takes_none, untaken}
 use Rattle.vault_write.proofs.Found.{Enters}
-use Rattle.vault_write.proofs.ItemMade.{IsBegun, IsRootFault, IsSplit, MayRefuse, RootsShow, at_itself, by_root, makes_named, makes_root, one_failed, one_ok, one_refused, one_stopped, root_fault, split}
+use Rattle.vault_write.proofs.ItemMade.{IsBegun, IsRootFault, IsSplit, MayRefuse, RootsShow, at_itself, by_root, folder_drew, makes_named, makes_root, one_error, one_failed, one_ok, one_refused, one_stopped, root_fault, split}
 use Rattle.vault_write.proofs.Placed.{doing_first, entry_may, none_among}
 use Rattle.vault_write.proofs.Seeing.{if_seen}
 use Rattle.vault_write.proofs.Stages.{root_unstaged}
@@ -133,8 +133,8 @@ answers_stopped p w u (puts.NotAllowed path) free stops = absurd stops
 answers_stopped p w u (puts.Taken at) free stops = absurd stops
 
 -- writing stops once the making has begun
-pub stopped_by : (p : Placing) (w : Writing) (t s : Option Told) (fault : PutFault) → length w.drawn ≤ making.draws (format p) p.item → StopsBy (format p).content w fault → MayRefuse p w.drawn t s fault
-stopped_by p w t s fault few stops = record { few = few; tested = inl (goes_on fault stops); zeros = λ same. subst (StopsBy (format p).content w) same stops }
+pub stopped_by : (p : Placing) (w : Writing) (t s : Option Told) (fault : PutFault) → length w.drawn ≤ making.draws (format p) p.item → StopsBy (format p).content w fault → (fault ≢ puts.ZeroRandom → DrewNoZeros (format p).content w.drawn) → MayRefuse p w.drawn t s fault
+stopped_by p w t s fault few stops accepted = record { few = few; tested = inl (goes_on fault stops); zeros = λ same. subst (StopsBy (format p).content w) same stops; accepted = accepted }
   where
     goes_on : (fault : PutFault) → StopsBy (format p).content w fault → IsOfMaking fault
     goes_on (puts.Find fault) stops = stops
@@ -153,7 +153,7 @@ file_refused {vault} {work} {front} {name} {coming} {stream} {t} {u} {result} ho
     (at_fault (PlacesFile how vault work front name coming coming stream stream t t) result fault by_fault (record {
       writing = untaken coming;
       takes = takes_none (format_of vault.vault).content coming stream fault;
-      one = one_refused how (placing vault work front name (NewFile (untaken coming).content)) (untaken coming).ending [] t fault (omega arith) (λ none. absurd (some none)) (answers (untaken coming).content (untaken coming).ending);
+      one = one_refused how (placing vault work front name (NewFile (untaken coming).content)) (untaken coming).ending [] t fault (omega arith) (λ none. absurd (some none)) (λ other. no_zeros_in_none (format_of vault.vault).content) (answers (untaken coming).content (untaken coming).ending);
     }))
 
 -- a making of edits at a root may begin
@@ -215,7 +215,7 @@ module _ (shows : EditsShowTrees) (keeps : EditsBeforeTheLastKeepTrees) (settles
       writing = untaken coming;
       takes = takes_none keys coming stream (of_folder fault);
       one = filed_in_part keeps roots (place (untaken coming).content) (opens_so (untaken coming).content []) [] firsts (last_edit (untaken coming).content []) (all_files (untaken coming).content []) t u
-          (filed (untaken coming).content []) (untaken coming).ending (of_folder fault) (stopped_by (place (untaken coming).content) (untaken coming) t u (of_folder fault) (omega arith) (stops_folder keys (untaken coming) fault)) (some_done (Err fault) adds (untaken coming).content []).0
+          (filed (untaken coming).content []) (untaken coming).ending (of_folder fault) (stopped_by (place (untaken coming).content) (untaken coming) t u (of_folder fault) (omega arith) (stops_folder keys (untaken coming) fault) (λ other. no_zeros_in_none keys)) (some_done (Err fault) adds (untaken coming).content []).0
           (λ v is. answers_stopped (place (untaken coming).content) (untaken coming) (under vault.root v) (of_folder fault) (free_at (untaken coming).content [] v is) (stops_folder keys (untaken coming) fault));
     }
 
@@ -232,9 +232,9 @@ module _ (shows : EditsShowTrees) (keeps : EditsBeforeTheLastKeepTrees) (settles
           (opens_whole gives are keys w.drawn w.content whole.encrypted) (filed w.content w.drawn a is)
 
       -- it only was staged
-      stopped_one : (fault : PutFault) → StopsBy keys w fault → OnlyStages work (entry_files inside (encrypt keys w.drawn w.content)) u s → MakesOne New (place w.content) w.ending w.drawn t s (Err fault)
-      stopped_one fault stops stages =
-          filed_in_part keeps roots (place w.content) (opens_so w.content w.drawn) w.drawn firsts (last_edit w.content w.drawn) (all_files w.content w.drawn) t s (filed w.content w.drawn) w.ending fault (stopped_by (place w.content) w t s fault enough stops)
+      stopped_one : (fault : PutFault) → (fault ≢ puts.ZeroRandom → DrewNoZeros keys w.drawn) → StopsBy keys w fault → OnlyStages work (entry_files inside (encrypt keys w.drawn w.content)) u s → MakesOne New (place w.content) w.ending w.drawn t s (Err fault)
+      stopped_one fault accepted stops stages =
+          filed_in_part keeps roots (place w.content) (opens_so w.content w.drawn) w.drawn firsts (last_edit w.content w.drawn) (all_files w.content w.drawn) t s (filed w.content w.drawn) w.ending fault (stopped_by (place w.content) w t s fault enough stops accepted)
           (stages vault.root (stopped_making firsts (all_files w.content w.drawn)) firsts [] t (entry_within (encrypt keys w.drawn w.content)) (some_done (Ok tt) adds w.content w.drawn).1).0
           (λ v is. answers_stopped (place w.content) w (under vault.root v) fault (free_at w.content w.drawn v is) stops)
 
@@ -244,11 +244,11 @@ module _ (shows : EditsShowTrees) (keeps : EditsBeforeTheLastKeepTrees) (settles
           subst (λ x. MakesOne New (place w.content) x w.drawn t s (Ok tt)) (sym whole.whole)
           (one_ok shows settles roots (place w.content) w.drawn (file_making firsts (last_edit w.content w.drawn) (all_files w.content w.drawn)) t s (begun_at whole) whole.encrypted.enough (accepted (λ clash. cc))
           (last_done (Ok tt) does).0 (last_done (Ok tt) does).1)
-      placed_one (Err fault) accepted (stops, inl stages) = stopped_one fault stops stages
+      placed_one (Err fault) accepted (stops, inl stages) = stopped_one fault (λ other. accepted (λ same. other (one_error same))) stops stages
       placed_one (Err fault) accepted (stops, inr (failed, is, whole, does)) =
           subst (λ x. MakesOne New (place w.content) w.ending w.drawn t s (Err x)) (sym is)
           (subst (λ x. MakesOne New (place w.content) x w.drawn t s (Err (of_folder failed))) (sym whole.whole)
-          (one_failed shows settles roots (place w.content) w.drawn (file_making firsts (last_edit w.content w.drawn) (all_files w.content w.drawn)) t s (begun_at whole) whole.encrypted.enough failed
+          (one_failed shows settles roots (place w.content) w.drawn (file_making firsts (last_edit w.content w.drawn) (all_files w.content w.drawn)) t s (begun_at whole) whole.encrypted.enough failed (accepted (λ same. folder_drew failed (sym is ∙ one_error same)))
           (last_done (Err failed) does).0))
 
     pub file_placed : (coming left : Option Coming) (stream stream' : Option ByteStream) (s : Option Told) (result : Result (Unit {0}) PutFault) → AddsEdits work firsts first_files t u (Ok tt)

@@ -58,7 +58,7 @@ none_given : (coming : Option Coming) → Gave [] coming coming
 none_given None = tt
 none_given (Some c) = refl
 
-no_zeros_in_none : (keys : Keys) → DrewNoZeros keys []
+pub no_zeros_in_none : (keys : Keys) → DrewNoZeros keys []
 no_zeros_in_none keys number has = let long : 16 * suc number ≤ length {A = ℕ} [] = drawn_so_far number [] has.zeros in absurd (omega (arith, long))
 
 told_so : (coming : Option Coming) (c : Coming) → coming ≡ Some c → c ≡ record { bytes = (untaken coming).content; ending = (untaken coming).ending }

@@ -112,7 +112,7 @@ folder_making folder.Failed = tt
 folder_making folder.Refused = tt
 folder_making folder.NoMemory = tt
 
-folder_drew : (fault : FolderFault) → of_folder fault ≢ puts.ZeroRandom
+pub folder_drew : (fault : FolderFault) → of_folder fault ≢ puts.ZeroRandom
 folder_drew folder.Failed = λ same. cc same
 folder_drew folder.Refused = λ same. cc same
 folder_drew folder.NoMemory = λ same. cc same
@@ -120,7 +120,7 @@ folder_drew folder.NoMemory = λ same. cc same
 abbrev failing : PutFault → Result (Unit {0}) PutFault
 failing fault = Err fault
 
-one_error : {a b : PutFault} → failing a ≡ failing b → a ≡ b
+pub one_error : {a b : PutFault} → failing a ≡ failing b → a ≡ b
 one_error same = cc same
 
 -- after the folder failed
@@ -151,8 +151,8 @@ module _ (how : How) (p : Placing) (drawn : List ℕ) (m : Making) (t w : Option
       (λ a b. Went (IsMaking p Whole (making_at p (making_by how p drawn) a.state) a.state) (λ s e. StagesOrPlaces p.work (making_at p (making_by how p drawn) a.state) s e.call) a b) t w
       (λ a b is k. (brings a b is).went k) went
 
-  pub one_whole : FromTo (HasFinished p.work p.vault.root m) t w → IfSeen t (λ v. AnswersBy how p drawn Whole (under p.vault.root v) (Ok tt)) → MakesOne how p Whole drawn t w (Ok tt)
-  one_whole finished answer = record {
+  pub one_whole : DrewNoZeros (format p).content drawn → FromTo (HasFinished p.work p.vault.root m) t w → IfSeen t (λ v. AnswersBy how p drawn Whole (under p.vault.root v) (Ok tt)) → MakesOne how p Whole drawn t w (Ok tt)
+  one_whole none finished answer = record {
     enough = omega (arith, size);
     makes = record {
       moments = moments_of;
@@ -163,10 +163,11 @@ module _ (how : How) (p : Placing) (drawn : List ℕ) (m : Making) (t w : Option
     answer = answer;
     tested = tt;
     zeros = λ clash. cc clash;
+    accepted = λ other. none;
   }
 
-  pub one_broken : (fault : FolderFault) → IfSeen t (λ v. AnswersBy how p drawn Whole (under p.vault.root v) (Err (of_folder fault))) → MakesOne how p Whole drawn t w (Err (of_folder fault))
-  one_broken fault answer = record {
+  pub one_broken : (fault : FolderFault) → DrewNoZeros (format p).content drawn → IfSeen t (λ v. AnswersBy how p drawn Whole (under p.vault.root v) (Err (of_folder fault))) → MakesOne how p Whole drawn t w (Err (of_folder fault))
+  one_broken fault none answer = record {
     enough = omega (arith, size);
     makes = record {
       moments = moments_of;
@@ -178,6 +179,7 @@ module _ (how : How) (p : Placing) (drawn : List ℕ) (m : Making) (t w : Option
     answer = answer;
     tested = inl (folder_making fault);
     zeros = λ same. absurd (folder_drew fault (one_error same));
+    accepted = λ other. none;
   }
 
 -- What is to be known of a fault, whether or not the folder tells its state: a test refused and nothing was changed, or the making had
@@ -186,6 +188,7 @@ pub record MayRefuse (p : Placing) (drawn : List ℕ) (t w : Option Told) (fault
   pub few : length drawn ≤ draws (format p) p.item
   pub tested : IsOfMaking fault ⊎ (w ≡ t)
   pub zeros : fault ≡ puts.ZeroRandom → DrewZeros (format p).content drawn
+  pub accepted : fault ≢ puts.ZeroRandom → DrewNoZeros (format p).content drawn
 
 -- where what opens stayed
 pub one_stopped : (how : How) (p : Placing) (ending : Ending) (drawn : List ℕ) (R : Told → Told → Type 0) (t w : Option Told) (fault : PutFault) → MayRefuse p drawn t w fault
@@ -205,13 +208,14 @@ one_stopped how p ending drawn R t w fault may went stays h answer = record {
   answer = answer;
   tested = may.tested;
   zeros = λ same. may.zeros (one_error same);
+  accepted = λ other. may.accepted (λ same. other (ap failing same));
 }
 
 -- where nothing was changed
-pub one_refused : (how : How) (p : Placing) (ending : Ending) (drawn : List ℕ) (t : Option Told) (fault : PutFault) → length drawn ≤ draws (format p) p.item → (fault ≡ puts.ZeroRandom → DrewZeros (format p).content drawn)
+pub one_refused : (how : How) (p : Placing) (ending : Ending) (drawn : List ℕ) (t : Option Told) (fault : PutFault) → length drawn ≤ draws (format p) p.item → (fault ≡ puts.ZeroRandom → DrewZeros (format p).content drawn) → (fault ≢ puts.ZeroRandom → DrewNoZeros (format p).content drawn)
     → IfSeen t (λ v. AnswersBy how p drawn ending (under p.vault.root v) (Err fault)) → MakesOne how p ending drawn t t (Err fault)
-one_refused how p ending drawn t fault few zeros answer =
-    one_stopped how p ending drawn (λ a b. b ≡ a) t t fault (record { few = few; tested = inr refl; zeros = zeros }) (λ a b is same. subst (Makes a) (sym same) (nowhere a))
+one_refused how p ending drawn t fault few zeros accepted answer =
+    one_stopped how p ending drawn (λ a b. b ≡ a) t t fault (record { few = few; tested = inr refl; zeros = zeros; accepted = accepted }) (λ a b is same. subst (Makes a) (sym same) (nowhere a))
     (λ a b is same path. ap (λ (c : Told). opened (format p) (under p.vault.root (seen c.state)) path) same) (from_to_same (λ a b. b ≡ a) t t refl (λ a. refl)) answer
   where
     Makes : Told → Told → Type 0
@@ -298,10 +302,10 @@ module _ (shows : EditsShowTrees) (settles : SettledEditsShowTrees) (roots : Roo
 
   pub one_ok : DrewNoZeros (format p).content drawn → FromTo (Edits p.work p.vault.root m) t w → FromTo (HasFinished p.work p.vault.root m) t w → MakesOne New p Whole drawn t w (Ok tt)
   one_ok none went finished =
-      one_whole New p drawn m t w brings size went finished (λ v is. (if_seen (λ v. HasTaken p drawn (under p.vault.root v) None) t (λ a told. (begun a told).taken) v is, refl, size, none))
+      one_whole New p drawn m t w brings size went none finished (λ v is. (if_seen (λ v. HasTaken p drawn (under p.vault.root v) None) t (λ a told. (begun a told).taken) v is, refl, size, none))
 
-  pub one_failed : (fault : FolderFault) → FromTo (Edits p.work p.vault.root m) t w → MakesOne New p Whole drawn t w (Err (of_folder fault))
-  one_failed fault went = one_broken New p drawn m t w brings size went fault (λ v is. answer fault (under p.vault.root v))
+  pub one_failed : (fault : FolderFault) → DrewNoZeros (format p).content drawn → FromTo (Edits p.work p.vault.root m) t w → MakesOne New p Whole drawn t w (Err (of_folder fault))
+  one_failed fault none went = one_broken New p drawn m t w brings size went fault none (λ v is. answer fault (under p.vault.root v))
     where
       answer : (fault : FolderFault) (u : View) → Answers p drawn Whole u (Err (of_folder fault))
       answer folder.Failed u = tt

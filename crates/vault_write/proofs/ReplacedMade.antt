@@ -44,7 +44,7 @@ use Rattle.content_writing.specs.Trees.{StaysGood, opens_as}
 use Rattle.vault_write.proofs.Begun.{folders_seen}
 use Rattle.vault_write.proofs.FileBegun.{opens_whole}
 use Rattle.vault_write.proofs.FileMade.{begins_at, first_shown, stopped_by, stopped_making}
-use Rattle.vault_write.proofs.ItemMade.{Brings, MayRefuse, RootsShow, one_broken, one_stopped, one_whole}
+use Rattle.vault_write.proofs.ItemMade.{Brings, MayRefuse, RootsShow, folder_drew, one_broken, one_error, one_stopped, one_whole}
 use Rattle.vault_write.proofs.Seeing.{if_seen}
 
 -- Where the edit is done, this opens there.
@@ -147,11 +147,11 @@ module _ (shows : EditsShowTrees) (settles : SettledEditsShowTrees) (roots : Roo
 
     pub replaced_ok : DrewNoZeros (format p).content drawn → FromTo (Edits p.work p.vault.root (replace_making at bytes)) t w → FromTo (HasFinished p.work p.vault.root (replace_making at bytes)) t w → MakesOne InPlace p Whole drawn t w (Ok tt)
     replaced_ok none went finished =
-        one_whole InPlace p drawn (replace_making at bytes) t w brings size went finished (answers_over p (opens_as p.item) drawn at bytes t k Whole (Ok tt) (λ x. (allowed, refl, size, none)))
+        one_whole InPlace p drawn (replace_making at bytes) t w brings size went none finished (answers_over p (opens_as p.item) drawn at bytes t k Whole (Ok tt) (λ x. (allowed, refl, size, none)))
 
-    pub replaced_failed : (fault : FolderFault) → FromTo (Edits p.work p.vault.root (replace_making at bytes)) t w → MakesOne InPlace p Whole drawn t w (Err (of_folder fault))
-    replaced_failed fault went =
-        one_broken InPlace p drawn (replace_making at bytes) t w brings size went fault (answers_over p (opens_as p.item) drawn at bytes t k Whole (Err (of_folder fault)) (answers fault))
+    pub replaced_failed : (fault : FolderFault) → DrewNoZeros (format p).content drawn → FromTo (Edits p.work p.vault.root (replace_making at bytes)) t w → MakesOne InPlace p Whole drawn t w (Err (of_folder fault))
+    replaced_failed fault none went =
+        one_broken InPlace p drawn (replace_making at bytes) t w brings size went fault none (answers_over p (opens_as p.item) drawn at bytes t k Whole (Err (of_folder fault)) (answers fault))
       where
         answers : (fault : FolderFault) (x : View) → AnswersOver p drawn Whole x (Err (of_folder fault))
         answers folder.Failed x = tt
@@ -236,14 +236,14 @@ module _ (shows : EditsShowTrees) (keeps : EditsBeforeTheLastKeepTrees) (settles
         subst (λ x. MakesOne InPlace (put_place w.content) x w.drawn t s (Ok tt)) (sym whole.whole)
         (replaced_ok shows settles roots (put_place w.content) w.drawn at (encrypt keys w.drawn w.content) t s (whole_at whole) allowed whole.encrypted.enough (accepted (λ clash. cc)) does.0 does.1)
     replaced_one (Err fault) accepted (stops, inl stages) =
-        replaced_stopped keeps roots (put_place w.content) (opens_so w.content w.drawn) w.drawn at (encrypt keys w.drawn w.content) t s (replaced w.content w.drawn) w.ending fault (stopped_by (put_place w.content) w t s fault enough stops)
+        replaced_stopped keeps roots (put_place w.content) (opens_so w.content w.drawn) w.drawn at (encrypt keys w.drawn w.content) t s (replaced w.content w.drawn) w.ending fault (stopped_by (put_place w.content) w t s fault enough stops (λ other. accepted (λ same. other (one_error same))))
         (stages vault.root (stopped_making [] (encrypt keys w.drawn w.content ∷ [])) [] [] t (λ file among. among)
         (begins_at work vault.root (stopped_making [] (encrypt keys w.drawn w.content ∷ [])) t refl (λ a is. ([], refl)) may sound)).0
         (λ x. over_by (put_place w.content) w x fault allowed stops)
     replaced_one (Err fault) accepted (stops, inr (failed, is, whole, does)) =
         subst (λ x. MakesOne InPlace (put_place w.content) w.ending w.drawn t s (Err x)) (sym is)
         (subst (λ x. MakesOne InPlace (put_place w.content) x w.drawn t s (Err (of_folder failed))) (sym whole.whole)
-        (replaced_failed shows settles roots (put_place w.content) w.drawn at (encrypt keys w.drawn w.content) t s (whole_at whole) allowed whole.encrypted.enough failed does.0))
+        (replaced_failed shows settles roots (put_place w.content) w.drawn at (encrypt keys w.drawn w.content) t s (whole_at whole) allowed whole.encrypted.enough failed (accepted (λ same. folder_drew failed (sym is ∙ one_error same))) does.0))
 
   pub replaced_file : ((content drawn : List ℕ) (a : Told) → t ≡ Some a → IsReplaced (put_place content) (opens_so content drawn) drawn at (encrypt keys drawn content) a)
       → (coming left : Option Coming) (stream stream' : Option ByteStream) (result : Result (Unit {0}) PutFault) → ReplacesContent keys work vault.root at coming left stream stream' t s result

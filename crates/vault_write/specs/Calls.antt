@@ -47,13 +47,14 @@ IsOfMaking (puts.Taken at) = ⊥
 IsOfMaking fault = Unit {0}
 
 -- A call makes an item under a name, with these bytes drawn: no more than the item draws. Where one of the tests refuses, nothing is
--- changed; zeros are refused only where they were drawn.
+-- changed. Zeros are refused where they were drawn, and only there.
 pub record MakesOne (how : How) (p : Placing) (ending : Ending) (drawn : List ℕ) (before after : Option Told) (result : Result (Unit {0}) PutFault) : Type 0 where
   pub enough : length drawn ≤ draws (format p) p.item
   pub makes : Makes p ending (making_by how p drawn) before after result
   pub answer : IfSeen before (λ v. AnswersBy how p drawn ending (under p.vault.root v) result)
   pub tested : IfErr result (λ fault. IsOfMaking fault ⊎ (after ≡ before))
   pub zeros : result ≡ Err puts.ZeroRandom → DrewZeros (format p).content drawn
+  pub accepted : result ≢ Err puts.ZeroRandom → DrewNoZeros (format p).content drawn
 
 -- at a plain path; the root isn't made
 pub record MakesAt (how : How) (vault : OpenedVault) (work : Path) (path : plain.Path) (item : NewItem) (ending : Ending) (drawn : List ℕ) (before after : Option Told) (result : Result (Unit {0}) PutFault) : Type 0 where

@@ -50,7 +50,7 @@ fn status_of(rt: &HostRuntime, words: &[String], folder: &mut HostFolder) -> Res
     Ok(status)
 }
 
-// Whether a line on the terminal can be cleared again, as not on one that is named so.
+// Whether a line on the terminal can be cleared again: not where TERM is `dumb`.
 fn clears_lines(rt: &HostRuntime) -> bool {
     match env::var(rt, "TERM") {
         Ok(name) => name.as_str() != "dumb",

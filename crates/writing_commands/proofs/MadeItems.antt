@@ -30,10 +30,10 @@ use Rattle.command_beginning.proofs.Beginnings.{Alike, Begins, Outside, apart_of
 use Rattle.command_beginning.proofs.Endings.{ended_before, made_beside, makes_nothing}
 use Rattle.command_opening.proofs.Refusals.{pass_gives, unless_then}
 use Rattle.command_beginning.proofs.Sites.{site_then}
-use Rattle.command_beginning.specs.Beginning.{IsBeginning, ChangesWork, OfSite, OfWork}
+use Rattle.command_beginning.specs.Beginning.{ChangesOnlyWork, IsBeginning, ChangesWork, OfSite, OfWork}
 use Rattle.command_opening.specs.Tests.{is_of_beginning}
 use Rattle.writing_commands.specs.Faults.{answer_to_making}
-use Rattle.writing_commands.specs.Items.{ChangesNoVault, ChangesThere, ChangesVault, ShowsOneBeside, ShowsNewTreeBeside, IsMakingBeside, MakesNamed, MakesItem, MakesIn}
+use Rattle.writing_commands.specs.Items.{ChangesThere, ChangesVault, ShowsOneBeside, ShowsNewTreeBeside, IsMakingBeside, MakesNamed, MakesItem, MakesIn}
 use Rattle.writing_commands.specs.Mkdir.{MakesDirectoryIn, is_of_directory}
 use Rattle.command_opening.specs.Opening.{Opens, OfVault}
 use Rattle.command_opening.specs.Places.{overlap}
@@ -140,9 +140,10 @@ named_made outside alike how p ending drawn t u w result sound apart begins one 
           subst (λ z. AnswersBy how p drawn ending z result) after.2 (one.answer after.0 after.1);
       tested = tested result one.tested;
       zeros = one.zeros;
+      accepted = one.accepted;
     }
   where
-    tested : (result : Result (Unit {0}) PutFault) → IfErr result (λ fault. IsOfMaking fault ⊎ (w ≡ u)) → IfErr result (λ fault. IsOfMaking fault ⊎ ChangesNoVault p.work t w)
+    tested : (result : Result (Unit {0}) PutFault) → IfErr result (λ fault. IsOfMaking fault ⊎ (w ≡ u)) → IfErr result (λ fault. IsOfMaking fault ⊎ ChangesOnlyWork p.work t w)
     tested (Ok value) holds = tt
     tested (Err fault) (inl begun) = inl begun
     tested (Err fault) (inr same) = inr (went_alone p.work t w (subst (ChangesWork p.work t) (sym same) begins))

@@ -1,8 +1,8 @@
 -- Making an item at a plain path of a vault, behind a work folder that is made ready first: a crash at any moment leaves the old tree
 -- or the new one.
-use Rattle.std.specs.Prelude.{◌≡◌, ◌⊎◌, ◌≤◌, ℕ, Bool, List, [], ◌∷◌, ◌++◌, length, Result, Err, OnOk, IfErr, Option, IsTrue}
+use Rattle.std.specs.Prelude.{◌≡◌, ◌≢◌, ◌⊎◌, ◌≤◌, ℕ, Bool, List, [], ◌∷◌, ◌++◌, length, Result, Err, OnOk, IfErr, Option, IsTrue}
 use Rattle.content_writing.specs.Content.{Ending, Whole}
-use Rattle.content_writing.specs.Writing.{DrewZeros}
+use Rattle.content_writing.specs.Writing.{DrewNoZeros, DrewZeros}
 use Rattle.content_writing.specs.declared.fault.PutFault.{PutFault}
 use Rattle.content_writing.specs.declared.fault.PutFault.TheVariants as puts
 use Rattle.folder_spec.specs.Path.{Path}
@@ -24,7 +24,7 @@ use Rattle.content_writing.specs.Making.{Placing, Making, format, path_of, Stage
 use Rattle.content_writing.specs.Placing.{ShowsOne, EndsAs, making_at}
 use Rattle.content_writing.specs.Trees.{KeepsTree, GainsItem, opens_as}
 use Rattle.writing_commands.specs.Faults.{answer_to_making}
-use Rattle.command_beginning.specs.Beginning.{MakesBeside, OfSite}
+use Rattle.command_beginning.specs.Beginning.{ChangesOnlyWork, MakesBeside, OfSite}
 use Rattle.command_opening.specs.Opening.{Opens}
 use Rattle.command_opening.specs.Tests.{is_of_beginning}
 use Rattle.command_opening.specs.World.{World}
@@ -57,12 +57,9 @@ pub record IsMakingBeside (p : Placing) (ending : Ending) (m : Making) (s0 s : S
   pub trees : ShowsOldOrNewTreeBeside p ending s0 s
   pub fronts : HoldFronts m.files s0 s
 
--- nothing is changed but the work folder
-abbrev pub ChangesNoVault : Path → Option Told → Option Told → Type 0
-ChangesNoVault work = Moments (IsAsBefore (apart_from work)) (λ s0 s e. Spares (apart_from work) e.call)
-
 -- Under a name, with these bytes drawn: no more than the item draws. In the vault the calls only bring what was staged to the places of
--- the item's edits, and where one of the tests refuses it isn't changed; zeros are refused only where they were drawn.
+-- the item's edits, and where one of the tests refuses it isn't changed. Zeros are refused where they were drawn, and only
+-- there.
 pub record MakesNamed (how : How) (p : Placing) (ending : Ending) (drawn : List ℕ) (before after : Option Told) (result : Result (Unit {0}) PutFault) : Type 0 where
   pub enough : length drawn ≤ draws (format p) p.item
   pub moments : Moments (λ s0 s. IsMakingBeside p ending (making_at p (making_by how p drawn) s0) s0 s)
@@ -70,14 +67,15 @@ pub record MakesNamed (how : How) (p : Placing) (ending : Ending) (drawn : List 
   pub done : OnOk result (FromTo (λ a b. ShowsNewTreeBeside p a.state b.state) before after)
   pub ends : (v w : View) → IsSeen before v → IsSeen after w → EndsAs p (under p.vault.root v) (under p.vault.root w) result
   pub answer : IfSeen before (λ v. AnswersBy how p drawn ending (under p.vault.root v) result)
-  pub tested : IfErr result (λ fault. IsOfMaking fault ⊎ ChangesNoVault p.work before after)
+  pub tested : IfErr result (λ fault. IsOfMaking fault ⊎ ChangesOnlyWork p.work before after)
   pub zeros : result ≡ Err puts.ZeroRandom → DrewZeros (format p).content drawn
+  pub accepted : result ≢ Err puts.ZeroRandom → DrewNoZeros (format p).content drawn
 
 -- At a plain path. The root isn't made, and nothing is changed but the work folder.
 pub record MakesItem (how : How) (vault : OpenedVault) (work : Path) (path : plain.Path) (item : NewItem) (ending : Ending) (drawn : List ℕ) (told told' : Option Told) (result : Result (Unit {0}) PutFault) : Type 0 where
   pub named : (front : plain.Path) (name : List ℕ) → path ≡ front ++ name ∷ []
       → MakesNamed how (record { vault = vault; work = work; front = front; name = name; item = item }) ending drawn told told' result
-  pub root : path ≡ [] → ChangesNoVault work told told' × (drawn ≡ []) × AnswersRoot how vault.root result
+  pub root : path ≡ [] → ChangesOnlyWork work told told' × (drawn ≡ []) × AnswersRoot how vault.root result
 
 -- A command makes an item in this vault, and its answer is that.
 pub record MakesIn (how : How) (change : Change) (item : NewItem) (ending : Ending) (vault : Vault) (answer : Answer) (told told' : Option Told) (stream stream' : Option ByteStream) : Type 0 where

@@ -1,4 +1,4 @@
-use Rattle.std.proofs.Common.{refl, inl, Ok}
+use Rattle.std.proofs.Common.{refl, inl, Ok, IfErr}
 use Rattle.folder_spec.specs.Region.{apart_from_both}
 use Rattle.migrate_core.proofs.Movings.{moves_nowhere, moves_on, settle_moves}
 use Rattle.migrate_core.proofs.Settled.{settle_goes}
@@ -8,7 +8,7 @@ use Rattle.migration_sides.proofs.Told.{apart_passes, apart_refused, folder_unle
 use Rattle.migration_sides.specs.Causes.{TestsApart}
 use Rattle.migration_sides.specs.Tests.{Then}
 use Rattle.migrate_core.proofs.Blaming.{apart_begins}
-use Rattle.migrate_core.specs.Causes.{Begins, BeginsApart, Unless, PassesBegin}
+use Rattle.migrate_core.specs.Causes.{Begins, BeginsApart, Unless, PassesBegin, IsOfPlacing}
 use Rattle.migrate_core.specs.Faults.{is_of_begin, of_folder, of_step}
 use Rattle.migrate_core.specs.declared.placing.Done.{Done}
 use Rattle.migrate_core.proofs.Writings.{settle_writes}
@@ -119,7 +119,7 @@ pub returns-clause-tested : goal.returns-clause-tested
 returns-clause-tested g c =
     let t0 = g.F.Folder.told c.args.folder.now in
     let t1 = g.F.Folder.told c.settle.new.self in
-    tested_settled t0 t1 (g.F.Folder.told c.begin_settled.new.folder) (λ v. PassesBegin c.args.names c.args.source.now c.args.target.now c.args.work.now c.args.source_pass.now c.args.target_pass.now v) c.begin_settled.ensures.tested
+    tested_settled t0 t1 (g.F.Folder.told c.begin_settled.new.folder) (λ v. IfErr c.begin_settled.result IsOfPlacing × PassesBegin c.args.names c.args.source.now c.args.target.now c.args.work.now c.args.source_pass.now c.args.target_pass.now v) c.begin_settled.ensures.tested
     (unchanged_settled t0 t1 c.settle.result c.settle.ensures.changes) (settle_seen t0 t1 c.in_ok-settle.field-0 c.in_ok-settle.ensures.changes)
 
 pub returns-in_err-test_apart-clause-completes : goal.returns-in_err-test_apart-clause-completes

@@ -18,7 +18,7 @@ use Rattle.migrate_core.proofs.Settled.{begins, settled_by, still_settled}
 use Rattle.migrate_core.proofs.Endings.{tree_moved}
 use Rattle.migrate_core.specs.Moved.{MovesTree, Placed}
 use Rattle.vault_spec.specs.Opened.{OpenedVault}
-use Rattle.migrate_core.specs.Causes.{Answer, BeginsWith, PassesBegin, TestsToBegin, Unless}
+use Rattle.migrate_core.specs.Causes.{Answer, BeginsWith, IsOfPlacing, PassesBegin, TestsToBegin, Unless}
 use Rattle.migrate_core.specs.Faults.{of_step, of_work}
 use Rattle.migrate_core.specs.declared.placing.Done.{Done}
 use Rattle.work_folder.specs.Looking.{Tests}
@@ -174,15 +174,18 @@ returns-clause-tested g c =
     let sides = c.in_ok-sides.sides in
     let loads = c.in_ok-sides.ensures in
     tested_on (g.F.Folder.told c.args.folder.now) (g.F.Folder.told c.load_both.new.folder) (g.F.Folder.told c.begin_with.new.folder)
-    (λ v. TestsToBegin sides.names sides.source sides.target v all_pass (Ok tt)) c.begin_with.ensures.tested (λ v. PassesBegin c.args.names from to work pass pass' v) (c.load_both.ensures.told ∙ c.look.ensures.told)
+    (λ v. IfErr c.begin_with.result IsOfPlacing × TestsToBegin sides.names sides.source sides.target v all_pass (Ok tt)) c.begin_with.ensures.tested
+    (λ v. IfErr c.begin_with.result IsOfPlacing × PassesBegin c.args.names from to work pass pass' v) (c.load_both.ensures.told ∙ c.look.ensures.told)
     (λ v seen passed.
-    let looked = subst (λ t. IsSeen t v) (sym c.look.ensures.told) seen in
-    record {
-      apart = separate_pass from to work c.requires.apart;
-      folder = c.in_ok-look.ensures.answer v seen;
-      vaults = both_open of_step v from to pass pass' (λ source target. TestsToBegin c.args.names source target v all_pass) sides.source sides.target loads.source loads.target (loads.opens_source v looked) (loads.opens_target v looked)
-          (subst (λ n. TestsToBegin n sides.source sides.target v all_pass (Ok tt)) loads.names passed);
-    })
+    let looked = subst (λ t. IsSeen t v) (sym c.look.ensures.told) seen in (
+      passed.0,
+      record {
+        apart = separate_pass from to work c.requires.apart;
+        folder = c.in_ok-look.ensures.answer v seen;
+        vaults = both_open of_step v from to pass pass' (λ source target. TestsToBegin c.args.names source target v all_pass) sides.source sides.target loads.source loads.target (loads.opens_source v looked) (loads.opens_target v looked)
+            (subst (λ n. TestsToBegin n sides.source sides.target v all_pass (Ok tt)) loads.names passed.1);
+      },
+    ))
 
 pub returns-in_err-look-clause-too_long : goal.returns-in_err-look-clause-too_long
 returns-in_err-look-clause-too_long g c =

@@ -30,7 +30,7 @@ use Rattle.migrate_core.specs.Sharing.{IsFilled, SharesFrom, SharesWhereTidy}
 use Rattle.migrate_core.proofs.beginning.begin_with.Goals as goal
 use Rattle.migration_sides.proofs.Chains.{fault_as, own_passes, own_refused, passed_is, refused_as}
 use Rattle.migrate_core.specs.declared.fault.MoveFault.TheVariants.{Failed, NoMemory}
-use Rattle.migrate_core.proofs.Tested.{step_tested}
+use Rattle.migrate_core.proofs.Tested.{moves_places, step_tested}
 
 pub returns-in_err-plans-clause-guard : goal.returns-in_err-plans-clause-guard
 returns-in_err-plans-clause-guard g c m sides = refused_nowhere _ m Unbegun Finished _ _ c.from_residual.result c.from_residual.ensures.1 c.walk_both.ensures.told
@@ -177,13 +177,17 @@ returns-in_err-mapped-clause-tested g c = inl c.walk_both.ensures.told
 pub returns-clause-tested : goal.returns-clause-tested
 returns-clause-tested g c = inr (λ v seen.
     let plans = c.in_ok-plans.plans in
+    let moved = c.move_all.ensures.cause v (subst (λ t. IsSeen t v) (sym c.walk_both.ensures.told) seen) in
     let empty : TestsEmpty plans.target.items (Ok tt) = subst (λ items. TestsEmpty items (Ok tt)) c.as_slice.ensures (passed_is Failed NoMemory tt (TestsEmpty c.as_slice.result.now (Ok tt)) c.in_ok-test_empty.ensures.cause) in (
-      Ok plans.source.items,
-      c.in_ok-plans.ensures.passed_source v seen,
+      moves_places (EntersAs v c.args.work.now) c.args.sides.now.source c.args.sides.now.target v c.in_ok-mapped.mapped.items c.move_all.result moved,
       (
-        Ok plans.target.items,
-        c.in_ok-plans.ensures.passed_target v seen,
-        (Ok tt, empty, (Ok tt, c.in_ok-mapped.ensures.passed, (Ok c.in_ok-mapped.mapped, c.in_ok-mapped.ensures.maps, refl))),
+        Ok plans.source.items,
+        c.in_ok-plans.ensures.passed_source v seen,
+        (
+          Ok plans.target.items,
+          c.in_ok-plans.ensures.passed_target v seen,
+          (Ok tt, empty, (Ok tt, c.in_ok-mapped.ensures.passed, (Ok c.in_ok-mapped.mapped, c.in_ok-mapped.ensures.maps, refl))),
+        ),
       ),
     ))
 

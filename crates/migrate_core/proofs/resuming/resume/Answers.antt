@@ -4,10 +4,10 @@ use Rattle.folder_spec.specs.Seen.{IfSeen}
 use Rattle.migrate_core.proofs.Endings.{if_ok_more, told_before}
 use Rattle.migrate_core.specs.Moved.{MovesTold}
 use Rattle.migrate_core.specs.Faults.{is_of_resume, of_folder}
-use Rattle.migrate_core.specs.Causes.{Resumes, Unless, PassesResume}
+use Rattle.migrate_core.specs.Causes.{Resumes, Unless, PassesResume, IsOfPlacing}
 use Rattle.migrate_core.proofs.Writings.{settle_writes}
 use Rattle.migrate_core.proofs.WrittenTrees.{refused_written, told_after}
-use Rattle.std.proofs.Common.{inl, Ok, refl}
+use Rattle.std.proofs.Common.{inl, Ok, refl, IfErr}
 use Rattle.migrate_core.proofs.Completing.{folder_chance, own_faults}
 use Rattle.migrate_core.proofs.Continuing.{resume_completes}
 use Rattle.migrate_core.proofs.Limits.{as_told_before, limit_more, none_compared}
@@ -88,7 +88,7 @@ pub returns-clause-tested : goal.returns-clause-tested
 returns-clause-tested g c =
     let t0 = g.F.Folder.told c.args.folder.now in
     let t1 = g.F.Folder.told c.settle.new.self in
-    tested_settled t0 t1 (g.F.Folder.told c.resume_settled.new.folder) (λ v. PassesResume c.args.work.now c.args.source_pass.now c.args.target_pass.now v) c.resume_settled.ensures.tested
+    tested_settled t0 t1 (g.F.Folder.told c.resume_settled.new.folder) (λ v. IfErr c.resume_settled.result IsOfPlacing × PassesResume c.args.work.now c.args.source_pass.now c.args.target_pass.now v) c.resume_settled.ensures.tested
     (unchanged_settled t0 t1 c.settle.result c.settle.ensures.changes) (settle_seen t0 t1 c.in_ok-settle.field-0 c.in_ok-settle.ensures.changes)
 
 pub returns-in_err-settle-clause-completes : goal.returns-in_err-settle-clause-completes

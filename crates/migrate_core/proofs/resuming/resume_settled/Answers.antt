@@ -1,4 +1,4 @@
-use Rattle.std.proofs.Common.{◌∙◌, subst, Err, Ok, sym, inl, ℕ, List}
+use Rattle.std.proofs.Common.{◌∙◌, subst, Err, Ok, sym, inl, ℕ, List, IfErr}
 use Rattle.folder_spec.specs.Seen.{IfSeen, IsSeen}
 use Rattle.move_journal.specs.declared.journal.Journal.{Journal}
 use Rattle.migrate_core.specs.Leading.{KeepsSettled}
@@ -13,7 +13,7 @@ use Rattle.migration_sides.specs.declared.fault.StepFault.TheVariants as steps
 use Rattle.migration_sides.proofs.Unchanged.{tested_on}
 use Rattle.migration_sides.specs.Tests.{Then}
 use Rattle.migrate_core.proofs.Blaming.{apart_resumes}
-use Rattle.migrate_core.specs.Causes.{PassesResume, PassesTold, Resumes, ResumesTold, Unless, is_done, Answer}
+use Rattle.migrate_core.specs.Causes.{IsOfPlacing, PassesResume, PassesTold, Resumes, ResumesTold, Unless, is_done, Answer}
 use Rattle.work_folder.specs.Looking.{Gives, TestsEntries}
 use Rattle.move_journal.specs.Reading.{ReadsAs, journal_bytes}
 use Rattle.move_journal.proofs.Standing.{read_stands}
@@ -190,14 +190,17 @@ returns-clause-tested g c =
     let pass' = c.args.target_pass.now in
     let read = c.in_ok-journal.journal in
     tested_on (g.F.Folder.told c.args.folder.now) (g.F.Folder.told c.look_again.new.folder) (g.F.Folder.told c.resume_told.new.folder)
-    (λ v. PassesTold work pass pass' read v) c.resume_told.ensures.tested (λ v. PassesResume work pass pass' v) (c.look_again.ensures.told ∙ c.read.ensures.told)
-    (λ v seen told. record {
-      journal = read;
-      reads = c.in_ok-journal.ensures.answer v seen;
-      apart = passed_is steps.Failed steps.NoMemory tt (TestsApart read.source read.target work (Ok tt)) c.in_ok-test_apart.ensures.cause;
-      entries = subst (λ old. TestsEntries old v work (Ok tt)) c.is_done.ensures (c.in_ok-look_again.ensures.answer v (subst (λ t. IsSeen t v) (sym c.read.ensures.told) seen));
-      told = told;
-    })
+    (λ v. IfErr c.resume_told.result IsOfPlacing × PassesTold work pass pass' read v) c.resume_told.ensures.tested (λ v. IfErr c.resume_told.result IsOfPlacing × PassesResume work pass pass' v) (c.look_again.ensures.told ∙ c.read.ensures.told)
+    (λ v seen told. (
+      told.0,
+      record {
+        journal = read;
+        reads = c.in_ok-journal.ensures.answer v seen;
+        apart = passed_is steps.Failed steps.NoMemory tt (TestsApart read.source read.target work (Ok tt)) c.in_ok-test_apart.ensures.cause;
+        entries = subst (λ old. TestsEntries old v work (Ok tt)) c.is_done.ensures (c.in_ok-look_again.ensures.answer v (subst (λ t. IsSeen t v) (sym c.read.ensures.told) seen));
+        told = told.1;
+      },
+    ))
 
 pub returns-in_err-journal-clause-too_long : goal.returns-in_err-journal-clause-too_long
 returns-in_err-journal-clause-too_long g c v seen =

@@ -1,4 +1,4 @@
-use Rattle.std.proofs.Common.{◌≡◌, ◌∙◌, sym, subst, subst₂, Err, Ok, inl}
+use Rattle.std.proofs.Common.{◌≡◌, ◌∙◌, sym, subst, subst₂, Err, Ok, inl, IfErr}
 use Rattle.folder_spec.specs.Region.{apart_from_both}
 use Rattle.folder_spec.specs.Seen.{IsSeen, seen}
 use Rattle.migrate_core.specs.Leading.{Guards, progress_of}
@@ -15,7 +15,7 @@ use Rattle.migrate_core.proofs.Settled.{resumes, settled_by, still_settled}
 use Rattle.migrate_core.proofs.Endings.{tree_moved}
 use Rattle.migrate_core.specs.Moved.{Placed}
 use Rattle.vault_spec.specs.Opened.{OpenedVault}
-use Rattle.migrate_core.specs.Causes.{Answer, PassesTold, ResumesTold, ResumesWith, TestsSource, TestsToResume, Unless}
+use Rattle.migrate_core.specs.Causes.{Answer, IsOfPlacing, PassesTold, ResumesTold, ResumesWith, TestsSource, TestsToResume, Unless}
 use Rattle.migrate_core.specs.Faults.{of_step}
 use Rattle.migrate_core.specs.declared.placing.Done.{Done}
 use Rattle.migrate_core.proofs.WrittenTrees.{nothing_written, tree_of}
@@ -177,13 +177,16 @@ returns-clause-tested g c =
     let sides = c.in_ok-sides.sides in
     let loads = c.in_ok-sides.ensures in
     tested_on (g.F.Folder.told c.args.folder.now) (g.F.Folder.told c.load_both.new.folder) (g.F.Folder.told c.resume_with.new.folder)
-    (λ v. TestsToResume sides.source sides.target journal v all_pass (Ok tt)) c.resume_with.ensures.tested (λ v. PassesTold work pass pass' journal v) (c.load_both.ensures.told ∙ c.test_source.ensures.told)
+    (λ v. IfErr c.resume_with.result IsOfPlacing × TestsToResume sides.source sides.target journal v all_pass (Ok tt)) c.resume_with.ensures.tested
+    (λ v. IfErr c.resume_with.result IsOfPlacing × PassesTold work pass pass' journal v) (c.load_both.ensures.told ∙ c.test_source.ensures.told)
     (λ v seen passed.
-    let once = subst (λ t. IsSeen t v) (sym c.test_source.ensures.told) seen in
-    record {
-      source = passed_is Failed NoMemory tt (TestsSource journal.phase work journal.source v (Ok tt)) (c.in_ok-test_source.ensures.cause v seen);
-      vaults = both_open of_step v journal.source journal.target pass pass' (λ source target. TestsToResume source target journal v all_pass) sides.source sides.target loads.source loads.target (loads.opens_source v once) (loads.opens_target v once) passed;
-    })
+    let once = subst (λ t. IsSeen t v) (sym c.test_source.ensures.told) seen in (
+      passed.0,
+      record {
+        source = passed_is Failed NoMemory tt (TestsSource journal.phase work journal.source v (Ok tt)) (c.in_ok-test_source.ensures.cause v seen);
+        vaults = both_open of_step v journal.source journal.target pass pass' (λ source target. TestsToResume source target journal v all_pass) sides.source sides.target loads.source loads.target (loads.opens_source v once) (loads.opens_target v once) passed.1;
+      },
+    ))
 
 pub returns-in_err-test_source-clause-too_long : goal.returns-in_err-test_source-clause-too_long
 returns-in_err-test_source-clause-too_long g c =

@@ -31,7 +31,7 @@ use Rattle.migrate_core.proofs.resuming.resume_with.Goals as goal
 use Rattle.migration_sides.proofs.Chains.{fault_as, passed_is, refused_as}
 use Rattle.migration_sides.specs.Tests.{all_pass}
 use Rattle.migrate_core.specs.declared.fault.MoveFault.TheVariants.{Failed, NoMemory}
-use Rattle.migrate_core.proofs.Tested.{step_tested}
+use Rattle.migrate_core.proofs.Tested.{moves_places, step_tested}
 
 pub returns-in_err-plans-clause-guard : goal.returns-in_err-plans-clause-guard
 returns-in_err-plans-clause-guard g c migration sides tells = refused_nowhere _ migration (progress_of c.args.journal.phase) Finished _ _ c.from_residual.result c.from_residual.ensures.1 c.walk_both.ensures.told
@@ -179,9 +179,11 @@ returns-clause-tested g c = inr (λ v seen.
     let items = c.in_ok-plans.plans.source.items in
     let there = c.in_ok-plans.plans.target.items in
     let once = subst (λ t. IsSeen t v) (sym c.walk_both.ensures.told) seen in
-    passed_is Failed NoMemory tt (TestsToResume from to journal v all_pass (Ok tt))
+    let moved = c.place_rest.ensures.cause v (subst (λ t. IsSeen t v) (sym c.test_plans.ensures.told) once) in
+    let passed : TestsToResume from to journal v all_pass (Ok tt) = passed_is Failed NoMemory tt (TestsToResume from to journal v all_pass (Ok tt))
     (walks_passes of_step from to v (λ items there. TestsItems from to journal v items there all_pass) (Ok tt) items there (c.in_ok-plans.ensures.passed_source v seen) (c.in_ok-plans.ensures.passed_target v seen)
-    (items_pass from to journal v items there all_pass c.in_ok-mapped.mapped.items (Ok tt) (c.in_ok-mapped.ensures.passed v once) (inr (inr refl)))))
+    (items_pass from to journal v items there all_pass c.in_ok-mapped.mapped.items (Ok tt) (c.in_ok-mapped.ensures.passed v once) (inr (inr refl)))) in
+    (moves_places (Empties v c.args.work.now) from to v c.in_ok-mapped.mapped.items c.place_rest.result moved, passed))
 
 pub place_rest-requires-clause-copying : goal.place_rest-requires-clause-copying
 place_rest-requires-clause-copying g c =

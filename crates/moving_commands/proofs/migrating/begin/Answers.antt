@@ -1,7 +1,7 @@
 use Rattle.std.proofs.Common.{subst, Ok, Err, IfErr, inl, inr, refl, sym}
 use Rattle.std.proofs.lemmas.Result.{err_from_is_err_and}
 use Rattle.folder_spec.specs.Seen.{IfSeen, IsSeen}
-use Rattle.migrate_core.specs.Causes.{PassesBegin}
+use Rattle.migrate_core.specs.Causes.{IsOfPlacing, PassesBegin}
 use Rattle.migrate_core.specs.Moved.{MovesTree}
 use Rattle.migration_sides.proofs.Unchanged.{tested_seen}
 use Rattle.migrate_core.specs.Completing.{CanBegin}
@@ -67,7 +67,11 @@ returns-in-Ok-clause-came g c = λ v is.
           (c.in_ok-phrases.ensures.source v is) (c.in_ok-phrases.ensures.target v is);
       outcome = Ok c.in-Ok.done;
       cause = c.in-Ok.ensures.cause v seen;
-      does = subst (λ t. IsWritten moving t told' stream stream' v c.as_slice.result.now c.as_slice-2.result.now (Ok c.in-Ok.done)) c.in_ok-phrases.ensures.told (c.in-Ok.ensures.written v seen, tt, tested_seen (g.F.Folder.told c.read_passes.new.folder) told' (λ w. PassesBegin moving.names moving.source moving.target moving.work c.as_slice.result.now c.as_slice-2.result.now w) v seen c.begin.ensures.tested);
+      does = subst (λ t. IsWritten moving t told' stream stream' v c.as_slice.result.now c.as_slice-2.result.now (Ok c.in-Ok.done)) c.in_ok-phrases.ensures.told (record {
+        writes = c.in-Ok.ensures.written v seen;
+        too_long = tt;
+        tested = tested_seen (g.F.Folder.told c.read_passes.new.folder) told' (λ w. IfErr (Ok c.in-Ok.done) IsOfPlacing × PassesBegin moving.names moving.source moving.target moving.work c.as_slice.result.now c.as_slice-2.result.now w) v seen c.in-Ok.ensures.tested;
+      });
       answers = refl;
     }
 
@@ -85,7 +89,11 @@ returns-clause-stopped g c = λ v is.
           (c.in_ok-phrases.ensures.source v is) (c.in_ok-phrases.ensures.target v is);
       outcome = Err c.in-Err.fault;
       cause = c.in-Err.ensures.cause v seen;
-      does = subst (λ t. IsWritten moving t told' stream stream' v c.as_slice.result.now c.as_slice-2.result.now (Err c.in-Err.fault)) c.in_ok-phrases.ensures.told (c.in-Err.ensures.written v seen, c.in-Err.ensures.too_long, tested_seen (g.F.Folder.told c.read_passes.new.folder) told' (λ w. PassesBegin moving.names moving.source moving.target moving.work c.as_slice.result.now c.as_slice-2.result.now w) v seen c.begin.ensures.tested);
+      does = subst (λ t. IsWritten moving t told' stream stream' v c.as_slice.result.now c.as_slice-2.result.now (Err c.in-Err.fault)) c.in_ok-phrases.ensures.told (record {
+        writes = c.in-Err.ensures.written v seen;
+        too_long = c.in-Err.ensures.too_long;
+        tested = tested_seen (g.F.Folder.told c.read_passes.new.folder) told' (λ w. IsOfPlacing c.in-Err.fault × PassesBegin moving.names moving.source moving.target moving.work c.as_slice.result.now c.as_slice-2.result.now w) v seen c.in-Err.ensures.tested;
+      });
       answers = elim c.answer_to_move.ensures.answers [ inl memory ↦ inl memory | inr same ↦ inr (c.root_of-root.result.now, c.root_of-root.ensures, same) ];
     })
 

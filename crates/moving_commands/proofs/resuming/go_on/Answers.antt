@@ -4,7 +4,7 @@ use Rattle.folder_spec.specs.Seen.{IfSeen, IsSeen}
 use Rattle.migrate_core.specs.Moved.{MovesTold}
 use Rattle.migrate_core.specs.Completing.{CanResume}
 use Rattle.migrate_core.specs.Moving.{MovesOnly}
-use Rattle.migrate_core.specs.Causes.{PassesResume}
+use Rattle.migrate_core.specs.Causes.{IsOfPlacing, PassesResume}
 use Rattle.migration_sides.proofs.Unchanged.{tested_seen}
 use Rattle.migration_spec.specs.Guard.{Migration}
 use Rattle.moving_commands.specs.Moving.{ArePhrases, Completes}
@@ -73,7 +73,11 @@ returns-in-Ok-clause-came g c = λ v is.
           (c.in_ok-known.ensures.source v is) (c.in_ok-known.ensures.target v is);
       outcome = Ok c.in-Ok.done;
       cause = c.in-Ok.ensures.cause v seen;
-      does = subst (λ t. IsWritten resuming t told' stream stream' v c.as_slice.result.now c.as_slice-2.result.now (Ok c.in-Ok.done)) same (c.in-Ok.ensures.written v seen, tt, tested_seen (g.F.Folder.told c.learn.new.folder) told' (λ w. PassesResume resuming.work c.as_slice.result.now c.as_slice-2.result.now w) v seen c.resume.ensures.tested);
+      does = subst (λ t. IsWritten resuming t told' stream stream' v c.as_slice.result.now c.as_slice-2.result.now (Ok c.in-Ok.done)) same (record {
+        writes = c.in-Ok.ensures.written v seen;
+        too_long = tt;
+        tested = tested_seen (g.F.Folder.told c.learn.new.folder) told' (λ w. IfErr (Ok c.in-Ok.done) IsOfPlacing × PassesResume resuming.work c.as_slice.result.now c.as_slice-2.result.now w) v seen c.in-Ok.ensures.tested;
+      });
       answers = refl;
     }
 
@@ -94,7 +98,11 @@ returns-clause-stopped g c = λ v is.
           (c.in_ok-known.ensures.source v is) (c.in_ok-known.ensures.target v is);
       outcome = Err c.in-Err.fault;
       cause = cause;
-      does = subst (λ t. IsWritten resuming t told' stream stream' v c.as_slice.result.now c.as_slice-2.result.now (Err c.in-Err.fault)) same (c.in-Err.ensures.written v seen, c.in-Err.ensures.too_long v seen, tested_seen (g.F.Folder.told c.learn.new.folder) told' (λ w. PassesResume resuming.work c.as_slice.result.now c.as_slice-2.result.now w) v seen c.resume.ensures.tested);
+      does = subst (λ t. IsWritten resuming t told' stream stream' v c.as_slice.result.now c.as_slice-2.result.now (Err c.in-Err.fault)) same (record {
+        writes = c.in-Err.ensures.written v seen;
+        too_long = c.in-Err.ensures.too_long v seen;
+        tested = tested_seen (g.F.Folder.told c.learn.new.folder) told' (λ w. IsOfPlacing c.in-Err.fault × PassesResume resuming.work c.as_slice.result.now c.as_slice-2.result.now w) v seen c.in-Err.ensures.tested;
+      });
       answers = elim c.stopped.ensures.answers [
         | inl memory ↦ inl memory
         | inr named ↦ inr (

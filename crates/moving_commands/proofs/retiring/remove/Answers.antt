@@ -52,7 +52,7 @@ returns-in-Ok-clause-came g c = λ v is.
       outcome = Ok c.in-Ok.retired;
       cause = c.in-Ok.ensures.cause v seen;
       does = touches_since resuming (g.F.Folder.told c.args.folder.now) (g.F.Folder.told c.learn.new.folder) told' v c.as_slice.result.now c.as_slice-2.result.now (Ok c.in-Ok.retired) same is c.retire.ensures.touches c.retire.ensures.removes
-          c.retire.ensures.tested;
+          c.in-Ok.ensures.tested;
       answers = refl;
     }
 
@@ -71,7 +71,7 @@ returns-clause-stopped g c = λ v is.
       outcome = Err c.in-Err.fault;
       cause = c.in-Err.ensures.cause v seen;
       does = touches_since resuming (g.F.Folder.told c.args.folder.now) (g.F.Folder.told c.learn.new.folder) told' v c.as_slice.result.now c.as_slice-2.result.now (Err c.in-Err.fault) same is c.retire.ensures.touches c.retire.ensures.removes
-          c.retire.ensures.tested;
+          c.in-Err.ensures.tested;
       answers = elim c.refused.ensures.answers [
         | inl memory ↦ inl memory
         | inr named ↦ inr (

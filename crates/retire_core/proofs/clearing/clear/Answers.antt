@@ -1,10 +1,12 @@
 use Rattle.retire_core.proofs.Cleared.{only_then}
 use Rattle.retire_core.proofs.Going.{retiring_then}
-use Rattle.migration_sides.proofs.Chains.{passed_is, refused_as}
+use Rattle.migration_sides.proofs.Chains.{passed_is, refused_as, fault_as}
 use Rattle.retire_core.proofs.Causing.{ends}
-use Rattle.retire_core.specs.Causes.{TestsRemovals, Unless}
+use Rattle.retire_core.specs.Causes.{TestsRemovals, Unless, IsOfFolder}
 use Rattle.retire_core.specs.declared.fault.RetireFault.TheVariants.{Failed, NoMemory}
 use Rattle.std.proofs.Common.{Ok}
+use Rattle.retire_core.specs.Faults.{IsOfRemoval}
+use Rattle.retire_core.proofs.Blaming.{folder_removal, if_err_both}
 use Rattle.retire_core.proofs.clearing.clear.Goals as goal
 
 pub returns-clause-guard : goal.returns-clause-guard
@@ -23,3 +25,9 @@ returns-in_err-clear_beside-clause-cause g c v seen =
 pub returns-clause-cause : goal.returns-clause-cause
 returns-clause-cause g c v seen =
     ends (TestsRemovals c.args.work.now v) c.clear_rest.result c.clear_rest.ensures.fails (passed_is Failed NoMemory tt (TestsRemovals c.args.work.now v (Ok tt)) (c.in_ok-clear_beside.ensures.cause v seen))
+
+pub returns-in_err-clear_beside-clause-refused : goal.returns-in_err-clear_beside-clause-refused
+returns-in_err-clear_beside-clause-refused g c = fault_as _ c.from_residual.result c.from_residual.ensures.1 c.in_err-clear_beside.ensures.refused
+
+pub returns-clause-refused : goal.returns-clause-refused
+returns-clause-refused g c = if_err_both IsOfFolder IsOfRemoval c.clear_rest.result folder_removal c.clear_rest.ensures.fails

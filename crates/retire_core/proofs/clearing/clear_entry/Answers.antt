@@ -7,7 +7,7 @@ use Rattle.folder_staging.specs.Removal.{Removes, deepest, from}
 use Rattle.folder_spec.specs.View.{NoEntry, kind_found}
 use Rattle.folder_spec.specs.Seen.{IsSeen}
 use Rattle.folder_spec.specs.declared.Kind.{Kind}
-use Rattle.retire_core.proofs.Blaming.{blamed_kind, blamed_removal}
+use Rattle.retire_core.proofs.Blaming.{blamed_kind, blamed_removal, folder_refused, removal_refuses}
 use Rattle.retire_core.proofs.Cleared.{bare_of, entry_cleared, entry_leaves, entry_same}
 use Rattle.retire_core.proofs.Going.{removes_retiring}
 use Rattle.migration_sides.proofs.Chains.{fault_as, refused_as}
@@ -51,6 +51,7 @@ returns-in_err-remove_all-in_default g c =
       clears = subst (λ p. ClearsEntry p t0 t2) its (subst (λ t. ClearsEntry at t t2) c.kind.ensures.told clears);
       leaves = subst (λ p. Leaves p t0 t2) its (subst (λ t. Leaves at t t2) c.kind.ensures.told (entry_leaves at t1 t2 (g.met.F.Folder.sound c.kind.new.self) clears));
       gone = tt;
+      refused = rw p.2 (removal_refuses c.in_err-remove_all-in_default.field-0.0);
       grows = (let first : n0 ≤ n1 = never_falls {T = Kind} t0 n0 n1 (Ok c.in_ok-kind.field-0) c.in_ok-kind.ensures.counts in let second : n1 ≤ n2 = removes.grows in omega (arith, first, second));
       cause = rw p.2
           (λ v seen. subst (λ q. Refuses (TestsRemoval q v) (of_removal c.in_err-remove_all-in_default.field-0.0)) its
@@ -78,6 +79,7 @@ returns g c =
       clears = subst (λ p. ClearsEntry p t0 t2) its (subst (λ t. ClearsEntry at t t2) c.kind.ensures.told clears);
       leaves = subst (λ p. Leaves p t0 t2) its (subst (λ t. Leaves at t t2) c.kind.ensures.told (entry_leaves at t1 t2 (g.met.F.Folder.sound c.kind.new.self) clears));
       gone = subst (λ p. IsGone p t2) its (bare_of at t2 c.remove_all.result c.in_ok-remove_all-in_default.field-0 (c.in_ok-remove_all-in_default.was) removes.bare);
+      refused = tt;
       grows = (let first : n0 ≤ n1 = never_falls {T = Kind} t0 n0 n1 (Ok c.in_ok-kind.field-0) c.in_ok-kind.ensures.counts in let second : n1 ≤ n2 = removes.grows in omega (arith, first, second));
       cause = λ v seen. inr (inr (subst (λ q. TestsRemoval q v (Ok tt)) its
           (removal_done at v c.remove_all.result c.in_ok-remove_all-in_default.field-0 c.in_ok-remove_all-in_default.was (removes.answer v (subst (λ t. IsSeen t v) (sym c.kind.ensures.told) seen)))));
@@ -95,3 +97,6 @@ returns-in-Missing-clause-cause g c v seen =
     let at = c.in_ok-at.at in
     inr (inr (none_removed t0 (g.met.F.Folder.sound c.args.folder.now) v seen (child c.args.work.now c.args.name.now)
     (subst (λ q. v q ≡ NoEntry) c.in_ok-at.ensures (missing_by_kind t0 at c.in_ok-kind.field-0 c.in_ok-kind.ensures.answer c.in-Missing.is v seen))))
+
+pub returns-in_err-kind-clause-refused : goal.returns-in_err-kind-clause-refused
+returns-in_err-kind-clause-refused g c = fault_as _ c.from_residual-in_err-kind.result c.from_residual-in_err-kind.ensures.1 (folder_refused c.in_err-kind.field-0.0)

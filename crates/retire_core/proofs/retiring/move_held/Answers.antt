@@ -4,7 +4,7 @@ use Rattle.migration_sides.specs.Sides.{opened_in}
 use Rattle.migration_spec.specs.Guard.{Migration, old_path}
 use Rattle.port_model.specs.Counts.{CountRose}
 use Rattle.retire_core.proofs.Away.{StaysInOrder, order_same}
-use Rattle.retire_core.proofs.Blaming.{blamed_step}
+use Rattle.retire_core.proofs.Blaming.{blamed_step, folder_removal, if_err_both}
 use Rattle.retire_core.proofs.Courses.{held_moves, held_same}
 use Rattle.retire_core.proofs.Going.{done_same}
 use Rattle.retire_core.specs.Clearing.{MovesHeldOnly}
@@ -12,10 +12,11 @@ use Rattle.retire_core.specs.Guarding.{ComesFromDone, KeepsDone}
 use Rattle.retire_core.specs.Retiring.{AreHeld, retiring_by}
 use Rattle.migration_sides.proofs.Chains.{fault_as, passed_is, refused_as}
 use Rattle.retire_core.proofs.Causing.{both_opened, closed, ends}
-use Rattle.retire_core.specs.Causes.{Answer, TestsHeld, TestsVaults, Unless}
+use Rattle.retire_core.specs.Causes.{Answer, IsOfFolder, TestsHeld, TestsVaults, Unless}
 use Rattle.retire_core.specs.declared.fault.RetireFault.{RetireFault}
 use Rattle.retire_core.specs.declared.fault.RetireFault.TheVariants.{Failed, NoMemory}
 use Rattle.folder_spec.specs.View.{View}
+use Rattle.retire_core.specs.Faults.{IsOfRemoval}
 use Rattle.retire_core.proofs.retiring.move_held.Given.{Over}
 use Rattle.retire_core.proofs.retiring.move_held.Goals as goal
 use Rattle.retire_core.proofs.retiring.move_held.Goals.{In_ok-test_held}
@@ -154,4 +155,7 @@ pub returns-in_err-test_held-clause-tested : goal.returns-in_err-test_held-claus
 returns-in_err-test_held-clause-tested g c = inl (c.test_held.ensures.told ∙ c.load_both.ensures.told)
 
 pub returns-clause-tested : goal.returns-clause-tested
-returns-clause-tested g c = inr (held_passed g (goal.at.returns-clause-tested g c).In_ok-test_held)
+returns-clause-tested g c = inr (λ v seen. (
+  if_err_both IsOfFolder IsOfRemoval c.move_source.result folder_removal c.move_source.ensures.fails,
+  held_passed g (goal.at.returns-clause-tested g c).In_ok-test_held v seen,
+))

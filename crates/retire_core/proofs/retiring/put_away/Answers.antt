@@ -1,6 +1,6 @@
 use denote.Enum.Bare.{same_true, sameb}
 use Rattle.move_journal.specs.Reading.{StandsIn}
-use Rattle.std.proofs.Common.{rules, true, false, ap, ◌≡◌, ◌≢◌, ◌∙◌, arith, subst, sym, inl, inr, refl, Ok}
+use Rattle.std.proofs.Common.{rules, true, false, ap, ◌≡◌, ◌≢◌, ◌∙◌, arith, subst, sym, inl, inr, refl, IfErr, Ok}
 use Rattle.folder_spec.specs.Seen.{IfSeen, IsSeen, moved_view}
 use Rattle.folder_spec.specs.View.{NoEntry, View}
 use Rattle.folder_spec.specs.contracts.Kind.{the_type}
@@ -19,7 +19,7 @@ use Rattle.migration_sides.proofs.Told.{folder_unless}
 use Rattle.migration_sides.proofs.Unchanged.{tested_on}
 use Rattle.retire_core.proofs.Causing.{away_none, away_there, is_free, not_free}
 use Rattle.retire_core.specs.Causes.{TestsAway, TestsFree, TestsHeld, Unless, moved_away}
-use Rattle.retire_core.specs.Faults.{of_folder}
+use Rattle.retire_core.specs.Faults.{IsOfRemoval, of_folder}
 use Rattle.retire_core.specs.declared.fault.RetireFault.TheVariants.{Failed, NoMemory}
 use Rattle.retire_core.proofs.retiring.put_away.Given.{Over}
 use Rattle.retire_core.proofs.retiring.put_away.Goals as goal
@@ -169,8 +169,12 @@ returns-clause-tested g c =
     let pass = c.args.source_pass.now in
     let pass_too = c.args.target_pass.now in
     tested_on (g.F.Folder.told c.args.folder.now) (g.F.Folder.told c.test_free.new.folder) (g.F.Folder.told c.move_held.new.folder)
-    (λ v. TestsHeld journal.names journal.source journal.target pass pass_too v (Ok tt)) c.move_held.ensures.tested (λ v. TestsAway work pass pass_too journal v (Ok tt)) (c.test_free.ensures.told ∙ c.kind.ensures.told)
-    (λ v seen held. inr (
-      still_there g (goal.at.returns-clause-tested g c).In_ok-test_free v seen,
-      (Ok tt, passed_is Failed NoMemory tt (TestsFree work v (Ok tt)) (c.in_ok-test_free.ensures.cause v (subst (λ t. IsSeen t v) (sym c.kind.ensures.told) seen)), held),
+    (λ v. IfErr c.move_held.result IsOfRemoval × TestsHeld journal.names journal.source journal.target pass pass_too v (Ok tt)) c.move_held.ensures.tested
+    (λ v. IfErr c.move_held.result IsOfRemoval × TestsAway work pass pass_too journal v (Ok tt)) (c.test_free.ensures.told ∙ c.kind.ensures.told)
+    (λ v seen held. (
+      held.0,
+      inr (
+        still_there g (goal.at.returns-clause-tested g c).In_ok-test_free v seen,
+        (Ok tt, passed_is Failed NoMemory tt (TestsFree work v (Ok tt)) (c.in_ok-test_free.ensures.cause v (subst (λ t. IsSeen t v) (sym c.kind.ensures.told) seen)), held.1),
+      ),
     ))

@@ -1,5 +1,5 @@
-use Rattle.std.proofs.Common.{subst, sym, refl, inl, inr}
-use Rattle.retire_core.specs.Faults.{of_folder}
+use Rattle.std.proofs.Common.{subst, sym, refl, inl, inr, IfErr}
+use Rattle.retire_core.specs.Faults.{IsOfRemoval, of_folder}
 use Rattle.retire_core.proofs.Courses.{removes_settled, retired_earlier, settle_removes, settle_touches, touches_then, settle_goes}
 use Rattle.retire_core.specs.Retiring.{retiring_by}
 use Rattle.migration_sides.proofs.Chains.{fault_as, refused_as, unless_met}
@@ -80,5 +80,5 @@ returns-clause-tested g c =
     let t0 = g.F.Folder.told c.args.folder.now in
     let t1 = g.F.Folder.told c.settle.new.self in
     let t2 = g.F.Folder.told c.retire_settled.new.folder in
-    tested_settled t0 t1 t2 (λ v. PassesTests c.args.work.now c.args.source_pass.now c.args.target_pass.now v) c.retire_settled.ensures.tested
+    tested_settled t0 t1 t2 (λ v. IfErr c.retire_settled.result IsOfRemoval × PassesTests c.args.work.now c.args.source_pass.now c.args.target_pass.now v) c.retire_settled.ensures.tested
     (unchanged_settled t0 t1 c.settle.result c.settle.ensures.changes) (settle_seen t0 t1 c.in_ok-settle.field-0 c.in_ok-settle.ensures.changes)

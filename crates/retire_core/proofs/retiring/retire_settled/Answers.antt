@@ -1,11 +1,11 @@
-use Rattle.std.proofs.Common.{◌≤◌, arith, ◌∙◌, codes, subst, sym, inl, Ok}
+use Rattle.std.proofs.Common.{◌≤◌, arith, ◌∙◌, codes, subst, sym, inl, IfErr, Ok}
 use Rattle.folder_spec.specs.Seen.{IsSeen}
 use Rattle.move_journal.specs.declared.journal.Journal.{Journal}
 use Rattle.move_journal.specs.Reading.{StandsIn}
 use Rattle.move_journal.proofs.Standing.{not_missing}
 use Rattle.port_model.specs.Counts.{CountRose}
 use Rattle.retire_core.proofs.Blaming.{blamed_later, blamed_step, if_err_both, later_own}
-use Rattle.retire_core.specs.Faults.{Blamed, IsLaterFault, IsRetireFault, of_step}
+use Rattle.retire_core.specs.Faults.{Blamed, IsLaterFault, IsOfRemoval, IsRetireFault, of_step}
 use Rattle.retire_core.proofs.Courses.{in_order, removes_same, retired_by, touches_same}
 use Rattle.retire_core.proofs.Going.{rest_same}
 use Rattle.retire_core.specs.Guarding.{KeepsFromRest}
@@ -164,11 +164,15 @@ returns-clause-tested g c =
     let pass_too = c.args.target_pass.now in
     let journal = c.in_ok-journal.journal in
     tested_on (g.F.Folder.told c.args.folder.now) (g.F.Folder.told c.look_again.new.folder) (g.F.Folder.told c.retire_told.new.folder)
-    (λ v. TestsAway work pass pass_too journal v (Ok tt)) c.retire_told.ensures.tested (λ v. PassesTests work pass pass_too v) (c.look_again.ensures.told ∙ c.read_done.ensures.told)
-    (λ v seen away. record {
-      journal = journal;
-      done = passed_is Failed NoMemory journal (ReadsDone work v (Ok journal)) (c.in_ok-journal.ensures.cause v seen);
-      apart = passed_is steps.Failed steps.NoMemory tt (TestsApart journal.source journal.target work (Ok tt)) c.in_ok-test_apart.ensures.cause;
-      entries = c.in_ok-look_again.ensures.answer v (subst (λ t. IsSeen t v) (sym c.read_done.ensures.told) seen);
-      away = away;
-    })
+    (λ v. IfErr c.retire_told.result IsOfRemoval × TestsAway work pass pass_too journal v (Ok tt)) c.retire_told.ensures.tested
+    (λ v. IfErr c.retire_told.result IsOfRemoval × PassesTests work pass pass_too v) (c.look_again.ensures.told ∙ c.read_done.ensures.told)
+    (λ v seen away. (
+      away.0,
+      record {
+        journal = journal;
+        done = passed_is Failed NoMemory journal (ReadsDone work v (Ok journal)) (c.in_ok-journal.ensures.cause v seen);
+        apart = passed_is steps.Failed steps.NoMemory tt (TestsApart journal.source journal.target work (Ok tt)) c.in_ok-test_apart.ensures.cause;
+        entries = c.in_ok-look_again.ensures.answer v (subst (λ t. IsSeen t v) (sym c.read_done.ensures.told) seen);
+        away = away.1;
+      },
+    ))

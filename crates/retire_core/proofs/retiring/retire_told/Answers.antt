@@ -1,11 +1,12 @@
 use Rattle.retire_core.proofs.Courses.{gone_still, removes_cleared, removes_moved, rest_then, touches_cleared, touches_moved}
 use Rattle.retire_core.specs.Retiring.{retiring_by}
-use Rattle.migration_sides.proofs.Chains.{passed_is, refused_as}
+use Rattle.migration_sides.proofs.Chains.{fault_as, passed_is, refused_as}
 use Rattle.retire_core.proofs.Causing.{is_retired, not_away, not_removed, removed_then}
 use Rattle.retire_core.specs.Causes.{RetiresTold, TestsAway, Unless}
+use Rattle.retire_core.specs.Faults.{IsOfRemoval}
 use Rattle.retire_core.specs.declared.fault.RetireFault.TheVariants.{Failed, NoMemory}
 use Rattle.folder_spec.specs.Seen.{IfSeen}
-use Rattle.std.proofs.Common.{Err, Ok, inr}
+use Rattle.std.proofs.Common.{Err, Ok, inl, inr}
 use Rattle.retire_core.proofs.retiring.retire_told.Given.{Over}
 use Rattle.retire_core.proofs.retiring.retire_told.Goals as goal
 use Rattle.retire_core.proofs.retiring.retire_told.Goals.{In_ok-put_away}
@@ -94,10 +95,16 @@ returns-clause-cause g c v seen =
     c.in_ok-clear.ensures.cause v seen)
 
 pub returns-in_err-put_away-clause-tested : goal.returns-in_err-put_away-clause-tested
-returns-in_err-put_away-clause-tested g c = c.put_away.ensures.tested
+returns-in_err-put_away-clause-tested g c = elim c.in_err-put_away.ensures.tested [
+  | inl same ↦ inl same
+  | inr passed ↦ inr (λ v seen. let p = passed v seen in (fault_as IsOfRemoval c.from_residual.result c.from_residual.ensures.1 p.0, p.1))
+]
 
 pub returns-in_err-clear-clause-tested : goal.returns-in_err-clear-clause-tested
-returns-in_err-clear-clause-tested g c = inr (put_away_passed g (goal.at.returns-in_err-clear-clause-tested g c).In_ok-put_away)
+returns-in_err-clear-clause-tested g c = inr (λ v seen. (
+  fault_as IsOfRemoval c.from_residual-in_err-clear.result c.from_residual-in_err-clear.ensures.1 c.in_err-clear.ensures.refused,
+  put_away_passed g (goal.at.returns-in_err-clear-clause-tested g c).In_ok-put_away v seen,
+))
 
 pub returns-clause-tested : goal.returns-clause-tested
-returns-clause-tested g c = inr (put_away_passed g (goal.at.returns-clause-tested g c).In_ok-put_away)
+returns-clause-tested g c = inr (λ v seen. (tt, put_away_passed g (goal.at.returns-clause-tested g c).In_ok-put_away v seen))

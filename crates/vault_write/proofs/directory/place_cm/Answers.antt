@@ -9,14 +9,14 @@ use Rattle.vault_write.proofs.directory.place_cm.Goals as goal
 
 pub returns-in_err-text-clause-made : goal.returns-in_err-text-clause-made
 returns-in_err-text-clause-made g c =
-    undrawn_one c.args.vault.now c.args.work.now c.args.front.now c.args.name.now (g.R.Randoms.left c.args.random.now) (g.R.Randoms.left c.draw_id.new.random) (g.F.Folder.told c.args.folder.now) (g.F.Folder.told c.args.folder.now) c.in_err-text.field-0.0 c.from_residual.result c.in_err-text.ensures.few c.in_err-text.ensures.fault refl c.from_residual.ensures.1
+    undrawn_one c.args.vault.now c.args.work.now c.args.front.now c.args.name.now (g.R.Randoms.left c.args.random.now) (g.R.Randoms.left c.draw_id.new.random) (g.F.Folder.told c.args.folder.now) (g.F.Folder.told c.args.folder.now) c.in_err-text.field-0.0 c.from_residual.result c.in_err-text.ensures.few (none_refused c.contents_of_cryptomator_refuse_no_zeros.ensures c.args.vault.now.vault c.requires.kind) c.in_err-text.ensures.fault refl c.from_residual.ensures.1
 
 pub home_of-requires : goal.home_of-requires
 home_of-requires g c = is_cryptomator c.args.vault.now.vault c.requires.kind
 
 pub returns-in_err-home-clause-made : goal.returns-in_err-home-clause-made
 returns-in_err-home-clause-made g c =
-    refused_one (placing c.args.vault.now c.args.work.now c.args.front.now c.args.name.now NewDirectory) c.in_ok-text.ensures.drawn.drawn (g.R.Randoms.left c.args.random.now) (g.R.Randoms.left c.draw_id.new.random) (g.F.Folder.told c.args.folder.now) (g.F.Folder.told c.home_of.new.folder) c.in_err-home.field-0.0 c.from_residual-in_err-home.result c.in_ok-text.ensures.drawn.were_drawn (omega (arith, c.in_ok-text.ensures.drawn.sixteen)) (place_drew c.in_err-home.field-0.0 c.in_err-home.ensures.kind) c.home_of.ensures.told
+    refused_one (placing c.args.vault.now c.args.work.now c.args.front.now c.args.name.now NewDirectory) c.in_ok-text.ensures.drawn.drawn (g.R.Randoms.left c.args.random.now) (g.R.Randoms.left c.draw_id.new.random) (g.F.Folder.told c.args.folder.now) (g.F.Folder.told c.home_of.new.folder) c.in_err-home.field-0.0 c.from_residual-in_err-home.result c.in_ok-text.ensures.drawn.were_drawn (omega (arith, c.in_ok-text.ensures.drawn.sixteen)) (place_drew c.in_err-home.field-0.0 c.in_err-home.ensures.kind) (λ other. none_refused c.contents_of_cryptomator_refuse_no_zeros.ensures c.args.vault.now.vault c.requires.kind c.in_ok-text.ensures.drawn.drawn) c.home_of.ensures.told
     (home_refused c.args.vault.now.root c.args.vault.now.vault c.requires.kind c.args.work.now c.args.front.now c.args.name.now c.as_bytes-id.result.now c.in_ok-text.ensures.drawn.drawn (g.F.Folder.told c.args.folder.now) c.args.slot.now.at c.args.slot.now.side c.args.slot.now.full (c.as_bytes-id.ensures.value ∙ c.in_ok-text.ensures.drawn.is) c.requires.slot c.in_err-home.field-0.0 c.in_err-home.ensures.taken) c.from_residual-in_err-home.ensures.1
 
 pub make_cm-requires-clause-begun : goal.make_cm-requires-clause-begun
@@ -38,6 +38,7 @@ returns-in_err-make_cm-clause-made g c =
     c.in_ok-home.ensures.home c.in_ok-home.ensures.shelf c.in_ok-home.ensures.free c.in_ok-home.ensures.wants (c.as_bytes-id.ensures.value ∙ c.in_ok-text.ensures.drawn.is)
     (is_id (id_of c.in_ok-text.ensures.drawn.drawn) (c.dir_ids_are_plain.ensures.size c.in_ok-text.ensures.drawn.drawn) (c.dir_ids_are_plain.ensures.characters c.in_ok-text.ensures.drawn.drawn)) c.in_ok-text.ensures.drawn.sixteen).begun
     c.in_ok-text.ensures.drawn.were_drawn c.in_ok-text.ensures.drawn.sixteen c.in_err-make_cm.field-0.0 c.from_residual-in_err-make_cm.result
+    (none_refused c.contents_of_cryptomator_refuse_no_zeros.ensures c.args.vault.now.vault c.requires.kind c.in_ok-text.ensures.drawn.drawn)
     (rw (sym c.home_of.ensures.told) c.in_err-make_cm.ensures.made.0) c.from_residual-in_err-make_cm.ensures.1
 
 pub returns-clause-made : goal.returns-clause-made

@@ -82,7 +82,7 @@ module _ (alike : AreAlike) (one : HaveOneAnswer) (laws : AreMovable) (plans : P
       tree = subst (IsOfLimit (PassesInTree Same from (target_of leg) phrase phrase (Some a) (Some b))) is stops.too_long
 
       same : under from (seen b.state) ≡ under from (seen a.state)
-      same = region_stays alike from (apart_from_both moving_folder (target_of leg)) (λ s e. OnlyBrings (target_of leg) s e.call) a b (sound a refl) (apart_moving leg) stops.moves
+      same = region_stays alike from (apart_from_both moving_folder (target_of leg)) (λ s e. OnlyBrings moving_folder (target_of leg) s e.call) a b (sound a refl) (apart_moving leg) stops.moves
 
       there : HoldsWell (kind_from leg) from sees.seed count (seen b.state)
       there = well_alike (kind_from leg) from sees.seed count (seen a.state) (seen b.state) same can.source
@@ -110,7 +110,7 @@ module _ (alike : AreAlike) (one : HaveOneAnswer) (laws : AreMovable) (plans : P
     shared = λ sees taken. (
       target_of leg,
       leg_shares one plans walks leg count s s' t t'
-          (goes_by (λ s0 here. IsAsBefore (apart_from_both moving_folder (target_of leg)) s0 here) (λ s0 here e. OnlyBrings (target_of leg) here e.call) t t' stops.moves)
+          (goes_by (λ s0 here. IsAsBefore (apart_from_both moving_folder (target_of leg)) s0 here) (λ s0 here e. OnlyBrings moving_folder (target_of leg) here e.call) t t' stops.moves)
           (subst (IsOfTaken (SharesInTree Same (source_of leg) (target_of leg) phrase phrase s s' t t')) taken.1 stops.shared) sees,
     );
     known = λ sees. (of_chance count t t' sound stops sees, no_limit count t t' sound stops sees);

@@ -89,7 +89,7 @@ carries : AreAlike → HaveOneAnswer → TreesStay → (second : VaultKind) (fro
     → IsWithin from (apart_from_both moving_folder to) → MakesBeside to (Some a) (Some b) → StandsNew second to b.state → (moves : MovesTree Same from to moving_folder phrase phrase done (Some b) (Some c))
     → MovesOnly moving_folder to (Some b) (Some c) → Carries second from to a c
 carries alike one stay second from to done a b c sound_a sound_b beside apart made new moves only = record {
-  goes = go_then a b c (goes_on (IsAsBefore (apart_from_both making_folder to) a.state) (λ s e. Unit {0}) a b made) (goes_on (IsAsBefore (apart_from_both moving_folder to) b.state) (λ s e. OnlyBrings to s e.call) b c only);
+  goes = go_then a b c (goes_on (IsAsBefore (apart_from_both making_folder to) a.state) (λ s e. Unit {0}) a b made) (goes_on (IsAsBefore (apart_from_both moving_folder to) b.state) (λ s e. OnlyBrings moving_folder to s e.call) b c only);
   is = λ vault opened. subst (λ x. kind_of x ≡ second) (same_vault one (under to (seen c.state)) moves.target vault opens opened) is;
   own = λ own_from vault opened. subst (λ x. HasOwnFolders x (under to (seen c.state))) (same_vault one (under to (seen c.state)) moves.target vault opens opened) (own_to own_from);
   holds = λ first seed count own_from held.
@@ -111,7 +111,7 @@ carries alike one stay second from to done a b c sound_a sound_b beside apart ma
     stays_first root inside = region_stays alike root (apart_from_both making_folder to) (λ s e. Unit {0}) a b sound_a inside made
 
     stays_then : (root : Path) → IsWithin root (apart_from_both moving_folder to) → under root (seen c.state) ≡ under root (seen b.state)
-    stays_then root inside = region_stays alike root (apart_from_both moving_folder to) (λ s e. OnlyBrings to s e.call) b c sound_b inside only
+    stays_then root inside = region_stays alike root (apart_from_both moving_folder to) (λ s e. OnlyBrings moving_folder to s e.call) b c sound_b inside only
 
     own_source : HasOwn from a.state → HasOwnFolders moves.source (under from (seen a.state))
     own_source own_from = own_from moves.source (subst (λ u. IsVault u phrase moves.source) (stays_first from beside) (moves.opens_source (seen b.state) refl))

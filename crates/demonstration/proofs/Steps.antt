@@ -237,10 +237,10 @@ carried alike one stay so_many plans leg seed count done a b sound few can moves
     region = apart_from_both moving_folder to
 
     at : (q : Path) → IsTrue (region q) → seen b.state q ≡ seen a.state q
-    at q inside = seen_as_before region a.state b.state sound (went_to (IsAsBefore region a.state) (λ s e. OnlyBrings to s e.call) a b only) q inside
+    at q inside = seen_as_before region a.state b.state sound (went_to (IsAsBefore region a.state) (λ s e. OnlyBrings moving_folder to s e.call) a b only) q inside
 
     stays : (root : Path) → IsWithin root region → under root (seen b.state) ≡ under root (seen a.state)
-    stays root inside = region_stays alike root region (λ s e. OnlyBrings to s e.call) a b sound inside only
+    stays root inside = region_stays alike root region (λ s e. OnlyBrings moving_folder to s e.call) a b sound inside only
 
     moved : HasMoved Same (opened_in from moves.source) (opened_in to moves.target) moving_folder done.items (seen b.state)
     moved = moves.moved (seen b.state) refl

@@ -97,10 +97,10 @@ module _ (rule : NameMap) (from to : OpenedVault) (work : Path) (planned : Plann
         loads = stays.loads;
       }
 
-module _ (rule : NameMap) (from to : OpenedVault) (work : Path) (item : Planned) (t u : Option Told) (separate : AreSeparate from.root to.root work) (sound : AreSound t) (moves : MovesBeside (is_apart work to.root) to.root t u)
+module _ (rule : NameMap) (from to : OpenedVault) (work : Path) (item : Planned) (t u : Option Told) (separate : AreSeparate from.root to.root work) (sound : AreSound t) (moves : MovesBeside (is_apart work to.root) work to.root t u)
     (of : IsItemOf rule t from item) where
   source_stays : (v w : View) → IsSeen t v → IsSeen u w → under from.root w ≡ under from.root v
-  source_stays = seen_stays (is_apart work to.root) from.root t u sound (λ rest. source_apart from.root to.root work rest separate) (moves_to (is_apart work to.root) to.root t u moves)
+  source_stays = seen_stays (is_apart work to.root) from.root t u sound (λ rest. source_apart from.root to.root work rest separate) (moves_to work (is_apart work to.root) to.root t u moves)
 
   pub directory_copies : DirectoriesOpen → item.node ≡ Dir → (s s' : Option ByteStream) → MakesDirectory to work item.path s s' t u (Ok tt) → CopiesOne rule from to item t u
   directory_copies opens node s s' made v w is_v is_w k =

@@ -238,11 +238,11 @@ has_moved held_in same_part mapped from to work own items others journal (Some a
 
     from_same : under from.root v ≡ under from.root w
     from_same = ap (under from.root) seen_is ∙ under_stays (apart_from_both work to.root) from.root a.state b.state (sound a refl) (λ rest. source_beside from.root to.root work rest separate)
-        (moves_to (apart_from_both work to.root) to.root (Some a) (Some b) beside_target)
+        (moves_to work (apart_from_both work to.root) to.root (Some a) (Some b) beside_target)
 
     to_same : under to.root v ≡ under to.root w
     to_same = ap (under to.root) seen_is ∙ under_stays (apart_from_both work from.root) to.root a.state b.state (sound a refl) (λ rest. source_beside to.root from.root work rest (turned_over from.root to.root work separate))
-        (moves_to (apart_from_both work from.root) from.root (Some a) (Some b) beside_source)
+        (moves_to work (apart_from_both work from.root) from.root (Some a) (Some b) beside_source)
 has_moved held_in same_part mapped from to work own items others journal None None separate sound is source target told_items moving walked_target same beside_target beside_source says count counted v seen_is = absurd seen_is
 has_moved held_in same_part mapped from to work own items others journal None (Some b) separate sound is source target told_items moving walked_target same beside_target beside_source says count counted v seen_is = absurd beside_target
 has_moved held_in same_part mapped from to work own items others journal (Some a) None separate sound is source target told_items moving walked_target same beside_target beside_source says count counted v seen_is = absurd seen_is

@@ -54,15 +54,15 @@ not_above s new q sound file stands apart = elim (begins_or_not new q) [
         let other : FileNode file.0 ≡ Directory = sym file.1 ∙ directory in cc
 
 -- what stands at the root or below it stays
-kept_by : (root : Path) (s : State) (call : Call) (rest : Path) → IsSound s → Allowed s call → OnlyBrings root s call → present s (root ++ rest) ≢ Nothing → present (changed s call) (root ++ rest) ≡ present s (root ++ rest)
-kept_by root s (MakeDir p) rest sound allowed brings stands = additions_keep (at_or_below root) s (MakeDir p) sound allowed tt (root ++ rest) (inside root rest) stands
-kept_by root s (Create p) rest sound allowed brings stands = additions_keep (at_or_below root) s (Create p) sound allowed (λ q within. outside root p q brings within) (root ++ rest) (inside root rest) stands
-kept_by root s (Append p piece) rest sound allowed brings stands = additions_keep (at_or_below root) s (Append p piece) sound allowed tt (root ++ rest) (inside root rest) stands
-kept_by root s (Sync p) rest sound allowed brings stands = additions_keep (at_or_below root) s (Sync p) sound allowed tt (root ++ rest) (inside root rest) stands
-kept_by root s Settle rest sound allowed brings stands = additions_keep (at_or_below root) s Settle sound allowed tt (root ++ rest) (inside root rest) stands
-kept_by root s (RemoveFile p) rest sound allowed brings stands = additions_keep (at_or_below root) s (RemoveFile p) sound allowed (λ q within. outside root p q brings within) (root ++ rest) (inside root rest) stands
-kept_by root s (RemoveDir p) rest sound allowed brings stands = additions_keep (at_or_below root) s (RemoveDir p) sound allowed (λ q within. outside root p q brings within) (root ++ rest) (inside root rest) stands
-kept_by root s (Rename old new) rest sound allowed brings stands = by_place allowed.3
+kept_by : (work : Path) (root : Path) (s : State) (call : Call) (rest : Path) → IsSound s → Allowed s call → OnlyBrings work root s call → present s (root ++ rest) ≢ Nothing → present (changed s call) (root ++ rest) ≡ present s (root ++ rest)
+kept_by work root s (MakeDir p) rest sound allowed brings stands = additions_keep (at_or_below root) s (MakeDir p) sound allowed tt (root ++ rest) (inside root rest) stands
+kept_by work root s (Create p) rest sound allowed brings stands = additions_keep (at_or_below root) s (Create p) sound allowed (λ q within. outside root p q brings within) (root ++ rest) (inside root rest) stands
+kept_by work root s (Append p piece) rest sound allowed brings stands = additions_keep (at_or_below root) s (Append p piece) sound allowed tt (root ++ rest) (inside root rest) stands
+kept_by work root s (Sync p) rest sound allowed brings stands = additions_keep (at_or_below root) s (Sync p) sound allowed tt (root ++ rest) (inside root rest) stands
+kept_by work root s Settle rest sound allowed brings stands = additions_keep (at_or_below root) s Settle sound allowed tt (root ++ rest) (inside root rest) stands
+kept_by work root s (RemoveFile p) rest sound allowed brings stands = additions_keep (at_or_below root) s (RemoveFile p) sound allowed (λ q within. outside root p q brings within) (root ++ rest) (inside root rest) stands
+kept_by work root s (RemoveDir p) rest sound allowed brings stands = additions_keep (at_or_below root) s (RemoveDir p) sound allowed (λ q within. outside root p q brings within) (root ++ rest) (inside root rest) stands
+kept_by work root s (Rename old new) rest sound allowed brings stands = by_place allowed.3
   where
     by_place : IsFree (present s) new ⊎ (HasFile (present s) old × HasFile (present s) new) → present (changed s (Rename old new)) (root ++ rest) ≡ present s (root ++ rest)
     by_place (inl free) =
@@ -70,37 +70,37 @@ kept_by root s (Rename old new) rest sound allowed brings stands = by_place allo
     by_place (inr files) =
         let apart : new ≢ root ++ rest = λ same. elim brings.2 [
           | inl none ↦ outside root new (root ++ rest) none (inside root rest) same
-          | inr free ↦ let both : FileNode files.1.0 ≡ Nothing = sym files.1.1 ∙ free.0 in cc
+          | inr comes ↦ let both : FileNode files.1.0 ≡ Nothing = sym files.1.1 ∙ comes.1.0 in cc
         ] in
         ap (λ w. w (root ++ rest)) (last_of-push s.kept s.later (moved (present s) old new))
         ∙ moved-other (present s) old new (root ++ rest) (not_above s new (root ++ rest) sound files.1 stands apart) (clear root old (root ++ rest) brings.0 brings.1 (inside root rest))
 
 -- ---- some calls
 
-kept_outcome : (root : Path) (s : State) (call : Call) (outcome : Outcome) (rest : Path) → IsSound s → WasAllowedBy s call outcome → OnlyBrings root s call → present s (root ++ rest) ≢ Nothing
+kept_outcome : (work : Path) (root : Path) (s : State) (call : Call) (outcome : Outcome) (rest : Path) → IsSound s → WasAllowedBy s call outcome → OnlyBrings work root s call → present s (root ++ rest) ≢ Nothing
     → present (outcome_state s call outcome) (root ++ rest) ≡ present s (root ++ rest)
-kept_outcome root s call Done rest sound allowed brings stands = kept_by root s call rest sound allowed brings stands
-kept_outcome root s (Append p piece) (Fell added) rest sound allowed brings stands = kept_by root s (Append p (take added piece)) rest sound allowed tt stands
-kept_outcome root s (MakeDir p) (Fell added) rest sound allowed brings stands = refl
-kept_outcome root s (Create p) (Fell added) rest sound allowed brings stands = refl
-kept_outcome root s (Sync p) (Fell added) rest sound allowed brings stands = refl
-kept_outcome root s Settle (Fell added) rest sound allowed brings stands = refl
-kept_outcome root s (Rename old new) (Fell added) rest sound allowed brings stands = refl
-kept_outcome root s (RemoveFile p) (Fell added) rest sound allowed brings stands = refl
-kept_outcome root s (RemoveDir p) (Fell added) rest sound allowed brings stands = refl
-kept_outcome root s call Denied rest sound allowed brings stands = refl
+kept_outcome work root s call Done rest sound allowed brings stands = kept_by work root s call rest sound allowed brings stands
+kept_outcome work root s (Append p piece) (Fell added) rest sound allowed brings stands = kept_by work root s (Append p (take added piece)) rest sound allowed tt stands
+kept_outcome work root s (MakeDir p) (Fell added) rest sound allowed brings stands = refl
+kept_outcome work root s (Create p) (Fell added) rest sound allowed brings stands = refl
+kept_outcome work root s (Sync p) (Fell added) rest sound allowed brings stands = refl
+kept_outcome work root s Settle (Fell added) rest sound allowed brings stands = refl
+kept_outcome work root s (Rename old new) (Fell added) rest sound allowed brings stands = refl
+kept_outcome work root s (RemoveFile p) (Fell added) rest sound allowed brings stands = refl
+kept_outcome work root s (RemoveDir p) (Fell added) rest sound allowed brings stands = refl
+kept_outcome work root s call Denied rest sound allowed brings stands = refl
 
 sound_after : (s : State) (call : Call) (outcome : Outcome) → IsSound s → WasAllowedBy s call outcome → IsSound (outcome_state s call outcome)
 sound_after s call Done sound allowed = changed_sound s call sound allowed
 sound_after s call (Fell added) sound allowed = fallen_sound s call added sound allowed
 sound_after s call Denied sound allowed = sound
 
-kept_run : (root rest : Path) (s : State) (events : List Event) → IsSound s → EachEvent (λ s' e. OnlyBrings root s' e.call) s events → EachEvent WasAllowed s events → present s (root ++ rest) ≢ Nothing
+kept_run : (work : Path) (root rest : Path) (s : State) (events : List Event) → IsSound s → EachEvent (λ s' e. OnlyBrings work root s' e.call) s events → EachEvent WasAllowed s events → present s (root ++ rest) ≢ Nothing
     → present (run s events) (root ++ rest) ≡ present s (root ++ rest)
-kept_run root rest s [] sound brings allowed stands = refl
-kept_run root rest s (e ∷ events) sound brings allowed stands =
-    let once : present (after s e) (root ++ rest) ≡ present s (root ++ rest) = kept_outcome root s e.call e.outcome rest sound allowed.0 brings.0 stands in
-    kept_run root rest (after s e) events (sound_after s e.call e.outcome sound allowed.0) brings.1 allowed.1 (λ none. stands (sym once ∙ none)) ∙ once
+kept_run work root rest s [] sound brings allowed stands = refl
+kept_run work root rest s (e ∷ events) sound brings allowed stands =
+    let once : present (after s e) (root ++ rest) ≡ present s (root ++ rest) = kept_outcome work root s e.call e.outcome rest sound allowed.0 brings.0 stands in
+    kept_run work root rest (after s e) events (sound_after s e.call e.outcome sound allowed.0) brings.1 allowed.1 (λ none. stands (sym once ∙ none)) ∙ once
 
 -- ---- what is seen
 
@@ -114,11 +114,11 @@ same_found a b q sound nodes same =
     by_spot Odd made = refl
     by_spot (FileNode n) made = ap (λ (node : Node). FileOf node.now) (nodes n (made n refl))
 
-pub still_seen : (work target rest : Path) (a b : Told) → IsSound a.state → Went (IsAsBefore (apart_from_both work target) a.state) (λ s e. OnlyBrings target s e.call) a b
+pub still_seen : (work target rest : Path) (a b : Told) → IsSound a.state → Went (IsAsBefore (apart_from_both work target) a.state) (λ s e. OnlyBrings work target s e.call) a b
     → seen a.state (target ++ rest) ≢ NoEntry → seen b.state (target ++ rest) ≡ seen a.state (target ++ rest)
 still_seen work target rest a b sound went stands =
-    same_found a.state b.state (target ++ rest) sound (went_to (IsAsBefore (apart_from_both work target) a.state) (λ s e. OnlyBrings target s e.call) a b went).nodes
-    (ap (λ (s : State). present s (target ++ rest)) went.state ∙ kept_run target rest a.state went.events sound went.each went.allowed (λ none. stands (ap (found (λ n. (a.state.nodes n).now)) none)))
+    same_found a.state b.state (target ++ rest) sound (went_to (IsAsBefore (apart_from_both work target) a.state) (λ s e. OnlyBrings work target s e.call) a b went).nodes
+    (ap (λ (s : State). present s (target ++ rest)) went.state ∙ kept_run work target rest a.state went.events sound went.each went.allowed (λ none. stands (ap (found (λ n. (a.state.nodes n).now)) none)))
 
 -- ---- what the passphrase opens
 

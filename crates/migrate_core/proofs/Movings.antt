@@ -32,29 +32,29 @@ use Rattle.std.proofs.lemmas.Bool.{and_from}
 
 -- ---- one after the other
 
-pub moves_nowhere : (region : Path → Bool) (root : Path) (t u : Option Told) → u ≡ t → MovesBeside region root t u
-moves_nowhere region root = stays_same region (λ s0 s e. OnlyBrings root s e.call)
+pub moves_nowhere : (work : Path) (region : Path → Bool) (root : Path) (t u : Option Told) → u ≡ t → MovesBeside region work root t u
+moves_nowhere work region root = stays_same region (λ s0 s e. OnlyBrings work root s e.call)
 
-pub moves_on : (region : Path → Bool) (root : Path) (t u w : Option Told) → MovesBeside region root t u → MovesBeside region root u w → MovesBeside region root t w
-moves_on region root t u w =
-    let Q : Kind = λ s0 s e. OnlyBrings root s e.call in
+pub moves_on : (work : Path) (region : Path → Bool) (root : Path) (t u w : Option Told) → MovesBeside region work root t u → MovesBeside region work root u w → MovesBeside region work root t w
+moves_on work region root t u w =
+    let Q : Kind = λ s0 s e. OnlyBrings work root s e.call in
     stays_on region region Q Q t u w (λ q inside. inside) (λ s0 s1 s e is. is)
 
 -- in a smaller region
-pub moves_within : (region within : Path → Bool) (root : Path) (t u : Option Told) → ((q : Path) → IsTrue (region q) → IsTrue (within q)) → MovesBeside within root t u → MovesBeside region root t u
-moves_within region within root t u inside =
-    let Q : Kind = λ s0 s e. OnlyBrings root s e.call in
+pub moves_within : (work : Path) (region within : Path → Bool) (root : Path) (t u : Option Told) → ((q : Path) → IsTrue (region q) → IsTrue (within q)) → MovesBeside within work root t u → MovesBeside region work root t u
+moves_within work region within root t u inside =
+    let Q : Kind = λ s0 s e. OnlyBrings work root s e.call in
     stays_more region within Q Q t u inside (λ s0 s e is. is)
 
 -- in the end the region is as it was
-pub moves_to : (region : Path → Bool) (root : Path) (t u : Option Told) → MovesBeside region root t u → FromTo (λ a b. IsAsBefore region a.state b.state) t u
-moves_to region root t u moves =
-    from_to_more (λ a b. Went (IsAsBefore region a.state) (λ s e. OnlyBrings root s e.call) a b) (λ a b. IsAsBefore region a.state b.state) t u
-    (λ a b is went. went_to (IsAsBefore region a.state) (λ s e. OnlyBrings root s e.call) a b went) moves
+pub moves_to : (work : Path) (region : Path → Bool) (root : Path) (t u : Option Told) → MovesBeside region work root t u → FromTo (λ a b. IsAsBefore region a.state b.state) t u
+moves_to work region root t u moves =
+    from_to_more (λ a b. Went (IsAsBefore region a.state) (λ s e. OnlyBrings work root s e.call) a b) (λ a b. IsAsBefore region a.state b.state) t u
+    (λ a b is went. went_to (IsAsBefore region a.state) (λ s e. OnlyBrings work root s e.call) a b went) moves
 
 -- a settle moves nothing
-pub settle_moves : (region : Path → Bool) (root : Path) (t u : Option Told) (result : Result (Unit {0}) FolderFault) → Changes Settle t u result → MovesBeside region root t u
-settle_moves region root t u result = stays_settled region (λ s0 s e. OnlyBrings root s e.call) t u result (λ s outcome. tt)
+pub settle_moves : (work : Path) (region : Path → Bool) (root : Path) (t u : Option Told) (result : Result (Unit {0}) FolderFault) → Changes Settle t u result → MovesBeside region work root t u
+settle_moves work region root t u result = stays_settled region (λ s0 s e. OnlyBrings work root s e.call) t u result (λ s outcome. tt)
 
 -- ---- the regions
 
@@ -96,7 +96,7 @@ seen_stays region root (Some a) None sound inside stayed v w is_v is_w = absurd 
 -- so it is of the source of calls that move something only in the work folder or the target
 pub source_stays : (from to through : Path) (t u : Option Told) → AreSeparate from to through → AreSound t → MovesOnly through to t u → (v w : View) → IsSeen t v → IsSeen u w → under from w ≡ under from v
 source_stays from to through t u separate sound moves =
-    seen_stays (apart_from_both through to) from t u sound (λ rest. source_beside from to through rest separate) (moves_to (apart_from_both through to) to t u moves)
+    seen_stays (apart_from_both through to) from t u sound (λ rest. source_beside from to through rest separate) (moves_to through (apart_from_both through to) to t u moves)
 
 -- a walk tells as much of a vault that is as before
 pub walked_stays : (region : Path → Bool) (from : OpenedVault) (items : List Planned) (t u : Option Told) → ((rest : Path) → IsTrue (region (from.root ++ rest))) → AreSound t
@@ -126,10 +126,10 @@ pub mapped_stays : (region : Path → Bool) (rule : NameMap) (from : OpenedVault
 mapped_stays region rule from items t u inside sound stayed walked = record { own = walked.own; walked = walked_stays region from walked.own t u inside sound stayed walked.walked; mapped = walked.mapped }
 
 -- so does one of the source while items are placed
-pub mapped_stay : (rule : NameMap) (from : OpenedVault) (to through : Path) (items : List Planned) (t u : Option Told) → AreSeparate from.root to through → AreSound t → MovesBeside (is_apart through to) to t u → IsMappedWalk rule t from items
+pub mapped_stay : (rule : NameMap) (from : OpenedVault) (to through : Path) (items : List Planned) (t u : Option Told) → AreSeparate from.root to through → AreSound t → MovesBeside (is_apart through to) through to t u → IsMappedWalk rule t from items
     → IsMappedWalk rule u from items
 mapped_stay rule from to through items t u separate sound moves =
-    mapped_stays (is_apart through to) rule from items t u (λ rest. source_apart from.root to through rest separate) sound (moves_to (is_apart through to) to t u moves)
+    mapped_stays (is_apart through to) rule from items t u (λ rest. source_apart from.root to through rest separate) sound (moves_to through (is_apart through to) to t u moves)
 
 pub moving_stays : (region : Path → Bool) (rule : NameMap) (from : OpenedVault) (own mapped : List Planned) (t u : Option Told) → ((rest : Path) → IsTrue (region (from.root ++ rest))) → AreSound t
     → FromTo (λ a b. IsAsBefore region a.state b.state) t u → AreItemsToMove rule t from own mapped → AreItemsToMove rule u from own mapped
@@ -138,7 +138,7 @@ moving_stays region rule from own mapped t u inside sound stayed items = record 
 pub items_stay : (rule : NameMap) (from : OpenedVault) (to through : Path) (own mapped : List Planned) (t u : Option Told) → AreSeparate from.root to through → AreSound t → MovesOnly through to t u → AreItemsToMove rule t from own mapped
     → AreItemsToMove rule u from own mapped
 items_stay rule from to through own mapped t u separate sound moves =
-    moving_stays (apart_from_both through to) rule from own mapped t u (λ rest. source_beside from.root to through rest separate) sound (moves_to (apart_from_both through to) to t u moves)
+    moving_stays (apart_from_both through to) rule from own mapped t u (λ rest. source_beside from.root to through rest separate) sound (moves_to through (apart_from_both through to) to t u moves)
 
 -- the items to move are such a walk
 pub mapped_walk : (rule : NameMap) (t : Option Told) (from : OpenedVault) (own mapped : List Planned) → AreItemsToMove rule t from own mapped → IsMappedWalk rule t from mapped

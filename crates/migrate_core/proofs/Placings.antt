@@ -69,13 +69,13 @@ module _ (root work : Path) (apart : AreApart root work) (q : Path) (staged : Is
   root_below : below q root ≡ None
   root_below = let there = staged_below work q staged in subst (λ w. below w root ≡ None) (sym there.1) (behind_none work there.0 root apart.other)
 
-places_bring : (root work : Path) → AreApart root work → (m : Making) → m.replaces ≡ false → (s : State) (call : Call) → StagesOrPlaces work m s call → OnlyBrings root s call
+places_bring : (root work : Path) → AreApart root work → (m : Making) → m.replaces ≡ false → (s : State) (call : Call) → StagesOrPlaces work m s call → OnlyBrings work root s call
 places_bring root work apart m new s (MakeDir p) h = tt
 places_bring root work apart m new s (Create p) h = below_root root work apart p h
 places_bring root work apart m new s (Append p piece) h = tt
 places_bring root work apart m new s (Sync p) h = tt
 places_bring root work apart m new s Settle h = tt
-places_bring root work apart m new s (Rename staged at) h = (below_root root work apart staged h.0, root_below root work apart staged h.0, inr (subst (λ r. MayCome r s staged at) new h.2))
+places_bring root work apart m new s (Rename staged at) h = (below_root root work apart staged h.0, root_below root work apart staged h.0, inr (h.0, subst (λ r. MayCome r s staged at) new h.2))
 places_bring root work apart m new s (RemoveFile p) h = below_root root work apart p h
 places_bring root work apart m new s (RemoveDir p) h = below_root root work apart p h
 
@@ -92,17 +92,17 @@ no_answer T taken (Ok done) refused = absurd (ok_is_no_err (refused (λ e. cc e)
 no_answer T taken (Err fault) refused = tt
 
 module _ (to : OpenedVault) (work : Path) (path : plain.Path) (item : NewItem) (ending : Ending) (drawn : List ℕ) (t u : Option Told) (result : Answer) (made : MakesAt New to work path item ending drawn t u result) where
-  pub made_moves : AreApart to.root work → MovesBeside (is_apart work to.root) to.root t u
+  pub made_moves : AreApart to.root work → MovesBeside (is_apart work to.root) work to.root t u
   made_moves apart = elim (base_or_child path) [
-    | inl root ↦ moves_nowhere (is_apart work to.root) to.root t u (made.root root).0
+    | inl root ↦ moves_nowhere work (is_apart work to.root) to.root t u (made.root root).0
     | inr named ↦
         let p : Placing = record { vault = to; work = work; front = named.0; name = named.1; item = item } in
         let one : MakesOne New p ending drawn t u result = made.named named.0 named.1 named.2 in
         from_to_more
         (λ a b. Went (IsMaking p ending (making_at p (new_item p drawn) a.state) a.state) (λ s e. StagesOrPlaces work (making_at p (new_item p drawn) a.state) s e.call) a b)
-        (λ a b. Went (IsAsBefore (is_apart work to.root) a.state) (λ s e. OnlyBrings to.root s e.call) a b) t u
+        (λ a b. Went (IsAsBefore (is_apart work to.root) a.state) (λ s e. OnlyBrings work to.root s e.call) a b) t u
         (λ a b is went. went_with (IsMaking p ending (making_at p (new_item p drawn) a.state) a.state) (IsAsBefore (is_apart work to.root) a.state)
-        (λ s e. StagesOrPlaces work (making_at p (new_item p drawn) a.state) s e.call) (λ s e. OnlyBrings to.root s e.call) a b
+        (λ s e. StagesOrPlaces work (making_at p (new_item p drawn) a.state) s e.call) (λ s e. OnlyBrings work to.root s e.call) a b
         (λ s making. making.others)
         (λ s e making call. places_bring to.root work apart (making_at p (new_item p drawn) a.state) (replaces_nothing p drawn (under to.root (seen a.state))) s e.call call) went) one.makes.moments
   ]

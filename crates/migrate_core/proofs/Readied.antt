@@ -54,7 +54,7 @@ module _ (rule : NameMap) (from to : OpenedVault) (through : Path) (own mapped t
   pub items_kept : (items : List Planned) → ((item : Planned) → Contains items item → Contains mapped item) → AreItemsToMove rule t from own mapped → Kept items t u
   items_kept items are walked =
       kept_by (apart_from_both through to.root) from.root items t u readied.sound
-      (λ item among. source_beside_at rule from to.root through mapped t item readied.separate (mapped_walk rule t from own mapped walked) (are item among)) (moves_to (apart_from_both through to.root) to.root t u readied.moves)
+      (λ item among. source_beside_at rule from to.root through mapped t item readied.separate (mapped_walk rule t from own mapped walked) (are item among)) (moves_to through (apart_from_both through to.root) to.root t u readied.moves)
 
   pub lacked_kept : AreItemsToMove rule t from own mapped → Kept (lacked there mapped) t u
   lacked_kept = items_kept (lacked there mapped) (lacked_is there mapped)

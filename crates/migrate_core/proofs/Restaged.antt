@@ -49,10 +49,10 @@ stage_apart work root apart = record {
   other = behind_none work (codes "stage" ∷ []) root apart.other;
 }
 
-pub stage_moves : (work root : Path) (t u : Option Told) → AreApart root work → ChangesAt (stage_path work) (IsStage work) (IsBelowStage work) t u → MovesBeside (apart_from_both work root) root t u
+pub stage_moves : (work root : Path) (t u : Option Told) → AreApart root work → ChangesAt (stage_path work) (IsStage work) (IsBelowStage work) t u → MovesBeside (apart_from_both work root) work root t u
 stage_moves work root t u apart changes =
-    moves_within (apart_from_both work root) (apart_from (stage_path work)) root t u
-    (beside_stage work root) (changing_moves (stage_path work) (IsStage work) (IsBelowStage work) root t u (stage_apart work root apart) changes)
+    moves_within work (apart_from_both work root) (apart_from (stage_path work)) root t u
+    (beside_stage work root) (changing_moves work (stage_path work) (IsStage work) (IsBelowStage work) root t u (stage_apart work root apart) changes)
 
 pub stage_readied : (work from to : Path) (t u : Option Told) → AreSeparate from to work → AreSound t → ChangesAt (stage_path work) (IsStage work) (IsBelowStage work) t u → IsReadied from to work t u
 stage_readied work from to t u separate sound changes =
@@ -61,14 +61,14 @@ stage_readied work from to t u separate sound changes =
 pub stage_stays : (work root : Path) (t u : Option Told) → AreApart root work → ChangesAt (stage_path work) (IsStage work) (IsBelowStage work) t u
     → FromTo (λ a b. IsAsBefore (apart_from (stage_path work)) a.state b.state) t u
 stage_stays work root t u apart changes =
-    moves_to (apart_from (stage_path work)) root t u (changing_moves (stage_path work) (IsStage work) (IsBelowStage work) root t u (stage_apart work root apart) changes)
+    moves_to work (apart_from (stage_path work)) root t u (changing_moves work (stage_path work) (IsStage work) (IsBelowStage work) root t u (stage_apart work root apart) changes)
 
 -- what doesn't depend on what is seen
-pub still_known : (X : Type 0) (region : Path → Bool) (root : Path) (t u : Option Told) → MovesBeside region root t u → IfSeen t (λ v. X) → IfSeen u (λ v. X)
-still_known X region root (Some a) (Some b) went known v is = known (seen a.state) refl
-still_known X region root None None went known v is = absurd is
-still_known X region root None (Some b) went known v is = absurd went
-still_known X region root (Some a) None went known v is = absurd went
+pub still_known : (work : Path) (X : Type 0) (region : Path → Bool) (root : Path) (t u : Option Told) → MovesBeside region work root t u → IfSeen t (λ v. X) → IfSeen u (λ v. X)
+still_known work X region root (Some a) (Some b) went known v is = known (seen a.state) refl
+still_known work X region root None None went known v is = absurd is
+still_known work X region root None (Some b) went known v is = absurd went
+still_known work X region root (Some a) None went known v is = absurd went
 
 -- it leaves a migration as far as it has come
 abbrev pub StagesAlone : Type 0
@@ -108,13 +108,13 @@ all_stand tell g t v own mapped there is done walked other =
 
 -- ---- going on
 
-pub rest_goes : {T E : Type 0} → SeenAlone → PlansTell → (region : Path → Bool) (root : Path) (g : Migration) (from to : OpenedVault) (through : Path) (journal : Journal) (own mapped there : List Planned)
-    → (t u w : Option Told) (result : Result T E) → MovesBeside region root t w → AreSides g journal.names from to through → Tells g journal → AreItemsToMove journal.names t from own mapped → IsWalked t to there
+pub rest_goes : {T E : Type 0} → (work : Path) → SeenAlone → PlansTell → (region : Path → Bool) (root : Path) (g : Migration) (from to : OpenedVault) (through : Path) (journal : Journal) (own mapped there : List Planned)
+    → (t u w : Option Told) (result : Result T E) → MovesBeside region work root t w → AreSides g journal.names from to through → Tells g journal → AreItemsToMove journal.names t from own mapped → IsWalked t to there
     → ((p : Progress) → Guards g p t u × Leads g p p t u)
     → (journal.phase ≡ phase.Building → LeadsTold from to through journal Begun Finished u w result)
     → (journal.phase ≡ phase.Done → StandAll mapped there → LeadsTold from to through journal Finished Finished u w result)
     → Goes g (progress_of journal.phase) Finished t w result
-rest_goes shown tell region root g from to through journal own mapped there t u w result went sides tells walked other first building done = by_phase journal.phase refl
+rest_goes {T} {E} work shown tell region root g from to through journal own mapped there t u w result went sides tells walked other first building done = by_phase journal.phase refl
   where
     walked_here : AreItemsToMove g.names t g.source own mapped
     walked_here = subst (λ o. AreItemsToMove g.names t o own mapped) sides.source (subst (λ n. AreItemsToMove n t from own mapped) sides.names walked)
@@ -125,5 +125,5 @@ rest_goes shown tell region root g from to through journal own mapped there t u 
     by_phase : (p : Phase) → journal.phase ≡ p → Goes g (progress_of p) Finished t w result
     by_phase phase.Building is = goes_on g Begun Begun Finished t u w result (first Begun).0 (first Begun).1 (building is g sides tells)
     by_phase phase.Done is =
-        goes_given (StandAll mapped there) (λ a b. Went (IsAsBefore region a.state) (λ s e. OnlyBrings root s e.call) a b) g Finished Finished t w result went stand
+        goes_given (StandAll mapped there) (λ a b. Went (IsAsBefore region a.state) (λ s e. OnlyBrings work root s e.call) a b) g Finished Finished t w result went stand
         (λ all. goes_on g Finished Finished Finished t u w result (first Finished).0 (first Finished).1 (done is all g sides tells))

@@ -165,12 +165,12 @@ pub still_settled : (g : Migration) (t u : Option Told) → u ≡ t → KeepsSet
 still_settled g t u = still_guarded (IsSettled g) g t u (λ s settled. settled.guarded)
 
 -- what is found of it leads it on
-pub settled_by : (region : Path → Bool) (root : Path) (g : Migration) (p : Progress) (t u : Option Told) → MovesBeside region root t u
+pub settled_by : (work : Path) (region : Path → Bool) (root : Path) (g : Migration) (p : Progress) (t u : Option Told) → MovesBeside region work root t u
     → ((a : Told) → t ≡ Some a → IsSettled g a.state → IsAlone g p a.state × Guards g p t u) → KeepsSettled g t u
-settled_by region root g p None None went known = tt
-settled_by region root g p (Some a) (Some b) went known = λ settled. let found = known a refl settled in found.1 found.0
-settled_by region root g p None (Some b) went known = absurd went
-settled_by region root g p (Some a) None went known = absurd went
+settled_by work region root g p None None went known = tt
+settled_by work region root g p (Some a) (Some b) went known = λ settled. let found = known a refl settled in found.1 found.0
+settled_by work region root g p None (Some b) went known = absurd went
+settled_by work region root g p (Some a) None went known = absurd went
 
 -- ---- a settle
 

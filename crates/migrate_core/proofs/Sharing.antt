@@ -149,24 +149,24 @@ put_stops Q put.NoMemory is = tt
 
 -- ---- what is seen at a moment
 
-module _ (region : Path → Bool) (root : Path) where
+module _ (work : Path) (region : Path → Bool) (root : Path) where
   abbrev Moved : Told → Told → Type 0
-  Moved a b = Went (IsAsBefore region a.state) (λ s e. OnlyBrings root s e.call) a b
+  Moved a b = Went (IsAsBefore region a.state) (λ s e. OnlyBrings work root s e.call) a b
 
   gone : (a b : Told) → Moved a b → HasGone a b
-  gone a b went = went_more (IsAsBefore region a.state) (λ s. Unit {0}) (λ s e. OnlyBrings root s e.call) (λ s e. Unit {0}) a b (λ s h. tt) (λ s e h. tt) went
+  gone a b went = went_more (IsAsBefore region a.state) (λ s. Unit {0}) (λ s e. OnlyBrings work root s e.call) (λ s e. Unit {0}) a b (λ s h. tt) (λ s e h. tt) went
 
-  pub seen_at_first : (t u : Option Told) (v : View) → MovesBeside region root t u → IsSeen t v → WasSeen t u v
+  pub seen_at_first : (t u : Option Told) (v : View) → MovesBeside region work root t u → IsSeen t v → WasSeen t u v
   seen_at_first (Some a) (Some b) v went is = (a, went_nowhere (λ s. Unit {0}) (λ s e. Unit {0}) a tt, gone a b went, is)
   seen_at_first (Some a) None v went is = absurd went
   seen_at_first None u v went is = absurd is
 
-  pub seen_behind : (t u w : Option Told) (v : View) → MovesBeside region root t u → WasSeen u w v → WasSeen t w v
+  pub seen_behind : (t u w : Option Told) (v : View) → MovesBeside region work root t u → WasSeen u w v → WasSeen t w v
   seen_behind t u w v =
       from_to_on Moved (λ b e. (c : Told) × HasGone b c × HasGone c e × (v ≡ seen c.state)) (λ a e. (c : Told) × HasGone a c × HasGone c e × (v ≡ seen c.state)) t u w
       (λ a b e went was. (was.0, went_on (λ s. Unit {0}) (λ s e. Unit {0}) a b was.0 (gone a b went) was.1, was.2, was.3))
 
-  pub shares_before : (Is More : View → Type 0) (to : OpenedVault) (items more : List Planned) (r s s' : Option ByteStream) (t u w : Option Told) → MovesBeside region root t u → Stays More Is t u
+  pub shares_before : (Is More : View → Type 0) (to : OpenedVault) (items more : List Planned) (r s s' : Option ByteStream) (t u w : Option Told) → MovesBeside region work root t u → Stays More Is t u
       → ((v x : View) → IsSeen t v → IsSeen u x → More v → LoadsAlike (under to.root v) (under to.root x)) → ((item : Planned) → Contains items item → Contains more item) → Compose → IfSeen t (λ v. (xs : List ℕ) × Draws r s xs)
       → SharesFrom Is to items s s' u w → SharesFrom More to more r s' t w
   shares_before Is More to items more r s s' t u w went stays alike within composed drew shares v is given =
@@ -185,7 +185,7 @@ module _ (region : Path → Bool) (root : Path) where
         shares = one.shares;
       }
 
-  pub in_tree_since : (rule : NameMap) (from to : Path) (pass pass' : List ℕ) (s s' : Option ByteStream) (t u w : Option Told) → MovesBeside region root t u → IfSeen t (λ v. IsSeen u v) → SharesInTree rule from to pass pass' s s' u w
+  pub in_tree_since : (rule : NameMap) (from to : Path) (pass pass' : List ℕ) (s s' : Option ByteStream) (t u w : Option Told) → MovesBeside region work root t u → IfSeen t (λ v. IsSeen u v) → SharesInTree rule from to pass pass' s s' u w
       → SharesInTree rule from to pass pass' s s' t w
   in_tree_since rule from to pass pass' s s' t u w went known h = record {
     source = h.source;
@@ -285,7 +285,7 @@ module _ (behind : StandBehind) (files : FilesAreThere) (leads : EnteredLeads) (
         were_drawn = were_drawn;
         moment = v;
         loads = λ pass vault opens. opens;
-        seen = seen_at_first (is_apart work to.root) to.root t u v (made_moves to work planned.path item ending drawn t u (Err why) made apart) is;
+        seen = seen_at_first work (is_apart work to.root) to.root t u v (made_moves to work planned.path item ending drawn t u (Err why) made apart) is;
         shares = taken_shares at (subst (λ (y : PutFault). MakesAt New to work planned.path item ending drawn t u (Err y)) same made) v is l;
       })
 

@@ -69,6 +69,6 @@ next_among items k item inside at one (suc j, lt, is) = absurd (omega (arith, lt
 
 -- the file of the next item stays while those before are placed
 pub next_kept : (rule : NameMap) (from : OpenedVault) (root work : Path) (items : List Planned) (k : ℕ) (item : Planned) (some : List Planned) (t u : Option Told) → AreSeparate from.root root work → AreSound t → IsMappedWalk rule t from items
-    → k < length items → item ≡ get_or items k item → ((one : Planned) → Contains some one → Contains (item ∷ []) one) → MovesBeside (is_apart work root) root t u → Kept some t u
+    → k < length items → item ≡ get_or items k item → ((one : Planned) → Contains some one → Contains (item ∷ []) one) → MovesBeside (is_apart work root) work root t u → Kept some t u
 next_kept rule from root work items k item some t u separate sound walked inside at are moves =
-    kept_by (is_apart work root) from.root some t u sound (λ one among. source_place rule from root work items t one separate walked (next_among items k item inside at one (are one among))) (moves_to (is_apart work root) root t u moves)
+    kept_by (is_apart work root) from.root some t u sound (λ one among. source_place rule from root work items t one separate walked (next_among items k item inside at one (are one among))) (moves_to work (is_apart work root) root t u moves)

@@ -49,19 +49,19 @@ not_moved region root p inside spared = elim (begins_or_not root p) [
   | inr none ↦ none
 ]
 
-pub spared_brings : (region : Path → Bool) (root : Path) → ((rest : Path) → IsTrue (region (root ++ rest))) → (s : State) (call : Call) → Spares region call → OnlyBrings root s call
-spared_brings region root inside s (MakeDir p) h = tt
-spared_brings region root inside s (Create p) h = not_in_root region root p inside h
-spared_brings region root inside s (Append p piece) h = tt
-spared_brings region root inside s (Sync p) h = tt
-spared_brings region root inside s Settle h = tt
-spared_brings region root inside s (Rename old new) h = (
+pub spared_brings : (work : Path) (region : Path → Bool) (root : Path) → ((rest : Path) → IsTrue (region (root ++ rest))) → (s : State) (call : Call) → Spares region call → OnlyBrings work root s call
+spared_brings work region root inside s (MakeDir p) h = tt
+spared_brings work region root inside s (Create p) h = not_in_root region root p inside h
+spared_brings work region root inside s (Append p piece) h = tt
+spared_brings work region root inside s (Sync p) h = tt
+spared_brings work region root inside s Settle h = tt
+spared_brings work region root inside s (Rename old new) h = (
   not_moved region root old inside (λ q is. (h q is).1),
   subst (λ r. below old r ≡ None) (append-nil root) (h (root ++ []) (inside [])).1,
   inl (not_moved region root new inside (λ q is. (h q is).0)),
 )
-spared_brings region root inside s (RemoveFile p) h = not_in_root region root p inside h
-spared_brings region root inside s (RemoveDir p) h = not_in_root region root p inside h
+spared_brings work region root inside s (RemoveFile p) h = not_in_root region root p inside h
+spared_brings work region root inside s (RemoveDir p) h = not_in_root region root p inside h
 
 -- ---- the paths
 
@@ -98,14 +98,14 @@ module _ (work root q : Path) (is : IsTrue (apart_from_both work root q)) where
 
 -- ---- what is moved
 
-pub changing_moves : (at : Path) (Comes Goes : Path → Type 0) (root : Path) (t u : Option Told) → AreApart root at → ChangesAt at Comes Goes t u → MovesBeside (apart_from at) root t u
-changing_moves at Comes Goes root t u apart changes =
+pub changing_moves : (work : Path) (at : Path) (Comes Goes : Path → Type 0) (root : Path) (t u : Option Told) → AreApart root at → ChangesAt at Comes Goes t u → MovesBeside (apart_from at) work root t u
+changing_moves work at Comes Goes root t u apart changes =
     from_to_more
     (λ a b. Went (IsChangingAt at Comes Goes a.state) (λ s e. ChangesOnly Comes Goes e.call × SparesOld (apart_from at) a.state s e.call) a b)
-    (λ a b. Went (IsAsBefore (apart_from at) a.state) (λ s e. OnlyBrings root s e.call) a b) t u
+    (λ a b. Went (IsAsBefore (apart_from at) a.state) (λ s e. OnlyBrings work root s e.call) a b) t u
     (λ a b is went. went_more (IsChangingAt at Comes Goes a.state) (IsAsBefore (apart_from at) a.state)
-    (λ s e. ChangesOnly Comes Goes e.call × SparesOld (apart_from at) a.state s e.call) (λ s e. OnlyBrings root s e.call) a b
-    (λ s changing. changing.others) (λ s e spares. spared_brings (apart_from at) root (apart_at at root apart) s e.call spares.1.0) went) changes
+    (λ s e. ChangesOnly Comes Goes e.call × SparesOld (apart_from at) a.state s e.call) (λ s e. OnlyBrings work root s e.call) a b
+    (λ s changing. changing.others) (λ s e spares. spared_brings work (apart_from at) root (apart_at at root apart) s e.call spares.1.0) went) changes
 
 writing_as : (work : Path) (text : List ℕ) (s0 s : State) → IsWriting work text s0 s → IsAsBefore (elsewhere work) s0 s
 writing_as work text s0 s writing = record {
@@ -120,27 +120,27 @@ written_beside work j t u writes =
     from_to_more (λ a b. Went (IsWriting work (journal_text j) a.state) (λ s e. SparesOld (elsewhere work) a.state s e.call) a b) (λ a b. IsAsBefore (elsewhere work) a.state b.state) t u
     (λ a b is went. writing_as work (journal_text j) a.state b.state (went_to (IsWriting work (journal_text j) a.state) (λ s e. SparesOld (elsewhere work) a.state s e.call) a b went)) writes
 
-pub writing_moves : (work root : Path) (j : Journal) (t u : Option Told) → AreApart root work → Writes work j t u → MovesBeside (elsewhere work) root t u
+pub writing_moves : (work root : Path) (j : Journal) (t u : Option Told) → AreApart root work → Writes work j t u → MovesBeside (elsewhere work) work root t u
 writing_moves work root j t u apart writes =
     from_to_more
     (λ a b. Went (IsWriting work (journal_text j) a.state) (λ s e. SparesOld (elsewhere work) a.state s e.call) a b)
-    (λ a b. Went (IsAsBefore (elsewhere work) a.state) (λ s e. OnlyBrings root s e.call) a b) t u
+    (λ a b. Went (IsAsBefore (elsewhere work) a.state) (λ s e. OnlyBrings work root s e.call) a b) t u
     (λ a b is went. went_more (IsWriting work (journal_text j) a.state) (IsAsBefore (elsewhere work) a.state)
-    (λ s e. SparesOld (elsewhere work) a.state s e.call) (λ s e. OnlyBrings root s e.call) a b
-    (λ s writing. writing_as work (journal_text j) a.state s writing) (λ s e spares. spared_brings (elsewhere work) root (elsewhere_at work root apart) s e.call spares.0) went) writes
+    (λ s e. SparesOld (elsewhere work) a.state s e.call) (λ s e. OnlyBrings work root s e.call) a b
+    (λ s writing. writing_as work (journal_text j) a.state s writing) (λ s e spares. spared_brings work (elsewhere work) root (elsewhere_at work root apart) s e.call spares.0) went) writes
 
 -- and beside the work folder and the target
 pub entered_moves : (work root : Path) (Comes Goes : Path → Type 0) (t u : Option Told) → AreApart root work → ChangesAt work Comes Goes t u → MovesOnly work root t u
 entered_moves work root Comes Goes t u apart changes =
-    moves_within (apart_from_both work root) (apart_from work) root t u (beside_work work root) (changing_moves work Comes Goes root t u apart changes)
+    moves_within work (apart_from_both work root) (apart_from work) root t u (beside_work work root) (changing_moves work work Comes Goes root t u apart changes)
 
 pub written_moves : (work root : Path) (j : Journal) (t u : Option Told) → AreApart root work → Writes work j t u → MovesOnly work root t u
-written_moves work root j t u apart writes = moves_within (apart_from_both work root) (elsewhere work) root t u (beside_journals work root) (writing_moves work root j t u apart writes)
+written_moves work root j t u apart writes = moves_within work (apart_from_both work root) (elsewhere work) root t u (beside_journals work root) (writing_moves work root j t u apart writes)
 
 -- the work folder is made ready, and the journal written
 pub begun_moves : (work root : Path) (j : Journal) (t u w : Option Told) → AreApart root work → ChangesAt work (IsWorkOrStage work) (IsLeftOver work) t u → Writes work j u w → MovesOnly work root t w
 begun_moves work root j t u w apart enters writes =
-    moves_on (apart_from_both work root) root t u w (entered_moves work root (IsWorkOrStage work) (IsLeftOver work) t u apart enters) (written_moves work root j u w apart writes)
+    moves_on work (apart_from_both work root) root t u w (entered_moves work root (IsWorkOrStage work) (IsLeftOver work) t u apart enters) (written_moves work root j u w apart writes)
 
 -- ---- what stays
 

@@ -92,7 +92,7 @@ pub(crate) fn place_missing<F: Folder, R: Randoms>(
     requires ready { IfSeen (F.told folder.old) (λ v. IsReady v work.now) }
     requires there { IfSeen (F.told folder.old) (λ v. IsOrdered there.now) }
     ensures guard { LeadsEach sides.now.names sides.now.source sides.now.target work.now Begun Begun (F.told folder.old) (F.told folder.new) result }
-    ensures moves { MovesBeside (is_apart work.now sides.now.target.root) sides.now.target.root (F.told folder.old) (F.told folder.new) }
+    ensures moves { MovesBeside (is_apart work.now sides.now.target.root) work.now sides.now.target.root (F.told folder.old) (F.told folder.new) }
     ensures ready { IfOk result (λ placed. IfSeen (F.told folder.new) (λ v. IsReady v work.now)) }
     ensures none { StandAll items.now there.now → F.told folder.new ≡ F.told folder.old }
     ensures counted { IfOk result (λ placed. IsOrdered there.now → placed ≡ lacking there.now items.now) }
@@ -158,7 +158,7 @@ fn place_missing_one<F: Folder, R: Randoms>(
     requires there { IfSeen (F.told folder.old) (λ v. IsOrdered there.now) }
     ensures kept { IfOk result (λ placed. IsKept sides.now.target (F.told folder.new) carried.new.kept.dir) }
     ensures guard { LeadsEach sides.now.names sides.now.source sides.now.target work.now Begun Begun (F.told folder.old) (F.told folder.new) result }
-    ensures moves { MovesBeside (is_apart work.now sides.now.target.root) sides.now.target.root (F.told folder.old) (F.told folder.new) }
+    ensures moves { MovesBeside (is_apart work.now sides.now.target.root) work.now sides.now.target.root (F.told folder.old) (F.told folder.new) }
     ensures ready { IfOk result (λ placed. IfSeen (F.told folder.new) (λ v. IsReady v work.now)) }
     ensures none { StandsIn item.now there.now → F.told folder.new ≡ F.told folder.old }
     ensures counted { IfOk result (λ placed. IsOrdered there.now → placed ≡ not (is_there there.now item.now)) }
@@ -204,7 +204,7 @@ fn place<F: Folder, R: Randoms>(
     requires ready { IfSeen (F.told folder.old) (λ v. IsReady v work.now) }
     ensures kept { IfOk result (λ placed. IsKept sides.now.target (F.told folder.new) carried.new.kept.dir) }
     ensures guard { LeadsEach sides.now.names sides.now.source sides.now.target work.now Begun Begun (F.told folder.old) (F.told folder.new) result }
-    ensures moves { MovesBeside (is_apart work.now sides.now.target.root) sides.now.target.root (F.told folder.old) (F.told folder.new) }
+    ensures moves { MovesBeside (is_apart work.now sides.now.target.root) work.now sides.now.target.root (F.told folder.old) (F.told folder.new) }
     ensures ready { IfOk result (λ placed. IfSeen (F.told folder.new) (λ v. IsReady v work.now)) }
     ensures copies { IfOk result (λ placed. CopiesOne sides.now.names sides.now.source sides.now.target item.now (F.told folder.old) (F.told folder.new)) }
     ensures grows { F.faults folder.old ≤ F.faults folder.new }
@@ -254,7 +254,7 @@ fn place_content<F: Folder, R: Randoms>(
     requires ready { IfSeen (F.told folder.old) (λ v. IsReady v work.now) }
     ensures kept { IfOk result (λ placed. IsKept sides.now.target (F.told folder.new) carried.new.kept.dir) }
     ensures guard { LeadsEach sides.now.names sides.now.source sides.now.target work.now Begun Begun (F.told folder.old) (F.told folder.new) result }
-    ensures moves { MovesBeside (is_apart work.now sides.now.target.root) sides.now.target.root (F.told folder.old) (F.told folder.new) }
+    ensures moves { MovesBeside (is_apart work.now sides.now.target.root) work.now sides.now.target.root (F.told folder.old) (F.told folder.new) }
     ensures ready { IfOk result (λ placed. IfSeen (F.told folder.new) (λ v. IsReady v work.now)) }
     ensures copies { IfOk result (λ placed. CopiesOne sides.now.names sides.now.source sides.now.target item.now (F.told folder.old) (F.told folder.new)) }
     ensures grows { F.faults folder.old ≤ F.faults folder.new }

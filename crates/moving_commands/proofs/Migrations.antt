@@ -80,8 +80,8 @@ module _ (law : AreSafe) (g : Migration) (told told' : Option Told) where
 
 pub moves_nothing : (work target : Path) (told told' : Option Told) → told' ≡ told → MovesOnly work target told told'
 moves_nothing work target told told' same =
-    from_to_same (λ a b. Went (IsAsBefore (apart_from_both work target) a.state) (λ s e. OnlyBrings target s e.call) a b) told told' same
-    (λ a. went_nowhere (IsAsBefore (apart_from_both work target) a.state) (λ s e. OnlyBrings target s e.call) a (as_before (apart_from_both work target) a.state))
+    from_to_same (λ a b. Went (IsAsBefore (apart_from_both work target) a.state) (λ s e. OnlyBrings work target s e.call) a b) told told' same
+    (λ a. went_nowhere (IsAsBefore (apart_from_both work target) a.state) (λ s e. OnlyBrings work target s e.call) a (as_before (apart_from_both work target) a.state))
 
 -- ---- the passphrases
 

@@ -91,8 +91,9 @@ OwnFolders moving v =
     (source target : Vault) → Opens v moving.source moving.passes.source source → Opens v moving.target moving.passes.target target
     → HasOwnFolders source (under moving.source v) × HasOwnFolders target (under moving.target v)
 
--- Of folders that don't overlap: whatever the answer is, nothing is lost; all but the work folder and the target stays as it was, and
--- nothing of the target is removed or replaced. At 0 the tree is moved. Where no test can fail and no content is damaged, it comes to that.
+-- Of folders that don't overlap: whatever the answer is, nothing is lost; all but the work folder and the target stays as it was, nothing
+-- of the target is removed or replaced, and files come there staged. At 0 the tree is moved. Where no test can fail and no content is
+-- damaged, it comes to that.
 pub record MigratesApart (moving : Moving) (answer : Answer) (told told' : Option Told) (taken taken' : Option (List ℕ)) (stream stream' : Option ByteStream) : Type 0 where
   pub own : IsTrue (is_of_migration answer)
   pub comes : IfSeen told (λ v. MayCome moving answer told told' stream stream' v)

@@ -29,7 +29,7 @@ pub returns-in_err-test_apart-clause-guard : goal.returns-in_err-test_apart-clau
 returns-in_err-test_apart-clause-guard g c = λ migration asked opened. still_guarded (Guarded migration) migration (g.F.Folder.told c.args.folder.now) (g.F.Folder.told c.args.folder.now) (λ s is. is) refl
 
 pub returns-in_err-test_apart-clause-moves : goal.returns-in_err-test_apart-clause-moves
-returns-in_err-test_apart-clause-moves g c = moves_nowhere _ c.args.target.now _ _ refl
+returns-in_err-test_apart-clause-moves g c = moves_nowhere c.args.work.now _ c.args.target.now _ _ refl
 
 pub returns-in_err-settle-clause-guard : goal.returns-in_err-settle-clause-guard
 returns-in_err-settle-clause-guard g c = λ migration asked opened.
@@ -37,7 +37,7 @@ returns-in_err-settle-clause-guard g c = λ migration asked opened.
 
 pub returns-in_err-settle-clause-moves : goal.returns-in_err-settle-clause-moves
 returns-in_err-settle-clause-moves g c =
-    settle_moves (apart_from_both c.args.work.now c.args.target.now) c.args.target.now (g.F.Folder.told c.args.folder.now) (g.F.Folder.told c.settle.new.self) c.settle.result c.settle.ensures.changes
+    settle_moves c.args.work.now (apart_from_both c.args.work.now c.args.target.now) c.args.target.now (g.F.Folder.told c.args.folder.now) (g.F.Folder.told c.settle.new.self) c.settle.result c.settle.ensures.changes
 
 pub returns-clause-guard : goal.returns-clause-guard
 returns-clause-guard g c = λ migration asked opened.
@@ -52,7 +52,7 @@ returns-clause-moves g c =
     let region = apart_from_both c.args.work.now c.args.target.now in
     let t0 = g.F.Folder.told c.args.folder.now in
     let t1 = g.F.Folder.told c.settle.new.self in
-    moves_on region c.args.target.now t0 t1 (g.F.Folder.told c.begin_settled.new.folder) (settle_moves region c.args.target.now t0 t1 c.settle.result c.settle.ensures.changes) c.begin_settled.ensures.moves
+    moves_on c.args.work.now region c.args.target.now t0 t1 (g.F.Folder.told c.begin_settled.new.folder) (settle_moves c.args.work.now region c.args.target.now t0 t1 c.settle.result c.settle.ensures.changes) c.begin_settled.ensures.moves
 
 pub returns-clause-moved : goal.returns-clause-moved
 returns-clause-moved g c =
@@ -188,4 +188,4 @@ returns-clause-shared g c =
     let t2 = g.F.Folder.told c.begin_settled.new.folder in
     let region = apart_from_both c.args.work.now to in
     if_taken (SharesInTree c.args.names from to pass pass' left left' t1 t2) (SharesInTree c.args.names from to pass pass' left left' t0 t2) c.begin_settled.result
-    (in_tree_since region to c.args.names from to pass pass' left left' t0 t1 t2 (settle_moves region to t0 t1 c.settle.result c.settle.ensures.changes) (settle_seen t0 t1 c.in_ok-settle.field-0 c.in_ok-settle.ensures.changes)) c.begin_settled.ensures.shared
+    (in_tree_since c.args.work.now region to c.args.names from to pass pass' left left' t0 t1 t2 (settle_moves c.args.work.now region to t0 t1 c.settle.result c.settle.ensures.changes) (settle_seen t0 t1 c.in_ok-settle.field-0 c.in_ok-settle.ensures.changes)) c.begin_settled.ensures.shared

@@ -37,13 +37,13 @@ pub returns-in_err-look-clause-guard : goal.returns-in_err-look-clause-guard
 returns-in_err-look-clause-guard g c migration asked opened = still_settled migration _ _ c.look.ensures.told
 
 pub returns-in_err-look-clause-moves : goal.returns-in_err-look-clause-moves
-returns-in_err-look-clause-moves g c = moves_nowhere _ c.args.target.now _ _ c.look.ensures.told
+returns-in_err-look-clause-moves g c = moves_nowhere c.args.work.now _ c.args.target.now _ _ c.look.ensures.told
 
 pub returns-in_err-sides-clause-guard : goal.returns-in_err-sides-clause-guard
 returns-in_err-sides-clause-guard g c migration asked opened = still_settled migration _ _ (c.load_both.ensures.told ∙ c.look.ensures.told)
 
 pub returns-in_err-sides-clause-moves : goal.returns-in_err-sides-clause-moves
-returns-in_err-sides-clause-moves g c = moves_nowhere _ c.args.target.now _ _ (c.load_both.ensures.told ∙ c.look.ensures.told)
+returns-in_err-sides-clause-moves g c = moves_nowhere c.args.work.now _ c.args.target.now _ _ (c.load_both.ensures.told ∙ c.look.ensures.told)
 
 pub begin_with-requires-clause-source : goal.begin_with-requires-clause-source
 begin_with-requires-clause-source g c = subst IsParsed (sym c.in_ok-sides.ensures.source) c.requires.source
@@ -62,7 +62,7 @@ returns-clause-guard g c = λ migration asked opened.
     let same : t2 ≡ t0 = c.load_both.ensures.told ∙ c.look.ensures.told in
     let sides = c.in_ok-sides.sides in
     let loads = c.in_ok-sides.ensures in
-    settled_by (apart_from_both c.args.work.now sides.target.root) sides.target.root migration Unbegun t0 t3 (subst (λ t. MovesOnly c.args.work.now sides.target.root t t3) same c.begin_with.ensures.moves)
+    settled_by c.args.work.now (apart_from_both c.args.work.now sides.target.root) sides.target.root migration Unbegun t0 t3 (subst (λ t. MovesOnly c.args.work.now sides.target.root t t3) same c.begin_with.ensures.moves)
     (λ a is settled.
     let v = seen a.state in
     let shown = subst (λ t. IsSeen t v) (sym c.look.ensures.told) (seen_of t0 a is) in

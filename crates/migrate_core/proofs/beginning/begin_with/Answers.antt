@@ -36,19 +36,19 @@ pub returns-in_err-plans-clause-guard : goal.returns-in_err-plans-clause-guard
 returns-in_err-plans-clause-guard g c m sides = refused_nowhere _ m Unbegun Finished _ _ c.from_residual.result c.from_residual.ensures.1 c.walk_both.ensures.told
 
 pub returns-in_err-plans-clause-moves : goal.returns-in_err-plans-clause-moves
-returns-in_err-plans-clause-moves g c = moves_nowhere _ c.args.sides.now.target.root _ _ c.walk_both.ensures.told
+returns-in_err-plans-clause-moves g c = moves_nowhere c.args.work.now _ c.args.sides.now.target.root _ _ c.walk_both.ensures.told
 
 pub returns-in_err-test_empty-clause-guard : goal.returns-in_err-test_empty-clause-guard
 returns-in_err-test_empty-clause-guard g c m sides = refused_nowhere _ m Unbegun Finished _ _ c.from_residual-in_err-test_empty.result c.from_residual-in_err-test_empty.ensures.1 c.walk_both.ensures.told
 
 pub returns-in_err-test_empty-clause-moves : goal.returns-in_err-test_empty-clause-moves
-returns-in_err-test_empty-clause-moves g c = moves_nowhere _ c.args.sides.now.target.root _ _ c.walk_both.ensures.told
+returns-in_err-test_empty-clause-moves g c = moves_nowhere c.args.work.now _ c.args.sides.now.target.root _ _ c.walk_both.ensures.told
 
 pub returns-in_err-mapped-clause-guard : goal.returns-in_err-mapped-clause-guard
 returns-in_err-mapped-clause-guard g c m sides = refused_nowhere _ m Unbegun Finished _ _ c.from_residual-in_err-mapped.result c.from_residual-in_err-mapped.ensures.1 c.walk_both.ensures.told
 
 pub returns-in_err-mapped-clause-moves : goal.returns-in_err-mapped-clause-moves
-returns-in_err-mapped-clause-moves g c = moves_nowhere _ c.args.sides.now.target.root _ _ c.walk_both.ensures.told
+returns-in_err-mapped-clause-moves g c = moves_nowhere c.args.work.now _ c.args.sides.now.target.root _ _ c.walk_both.ensures.told
 
 pub move_all-requires-clause-walked : goal.move_all-requires-clause-walked
 move_all-requires-clause-walked g c = record {

@@ -154,7 +154,7 @@ returns-clause-moves g c =
     let root = c.args.sides.now.target.root in
     let written = g.F.Folder.told c.write.new.folder in
     let after = g.F.Folder.told c.go_on.new.folder in
-    moves_on (apart_from_both c.args.work.now root) root (g.F.Folder.told c.args.folder.now) written after (readied g (goal.at.returns-clause-moves g c).After-write).moves
+    moves_on c.args.work.now (apart_from_both c.args.work.now root) root (g.F.Folder.told c.args.folder.now) written after (readied g (goal.at.returns-clause-moves g c).After-write).moves
     (subst (λ w. MovesOnly w root written after) c.in_ok-entered.ensures.path c.go_on.ensures.moves)
 
 pub returns-in_err-write-clause-guard : goal.returns-in_err-write-clause-guard
@@ -324,7 +324,7 @@ returns-clause-ends g c =
     let target_same = target_is rule from to work items mapped [] told written ready in
     ends_more (CopiesAll rule from to [] mapped written after) (StayGood from to told after) (SharesFrom (IsFilled rule from to []) to mapped left left' written after) (SharesFrom (IsFilled rule from to []) to mapped left left' told after) rule from to after
     c.go_on.result (readied_good rule from to work items mapped [] told written ready after c.requires.copying)
-    (shares_before (apart_from_both work to.root) to.root (IsFilled rule from to []) (IsFilled rule from to []) to mapped mapped left left left' told written after ready.moves
+    (shares_before c.args.work.now (apart_from_both work to.root) to.root (IsFilled rule from to []) (IsFilled rule from to []) to mapped mapped left left left' told written after ready.moves
     (λ v w is_v is_w. filled_as rule from to [] v w (source_same v w is_v is_w) (target_same v w is_v is_w))
     (λ v w is_v is_w filled. subst (LoadsAlike (under to.root v)) (sym (target_same v w is_v is_w)) (λ pass vault opens. opens)) (λ item among. among) c.draws_compose.ensures.composed (λ v is. ([], c.draws_compose.ensures.none left)))
     c.go_on.ensures.ends

@@ -33,7 +33,7 @@ returns-in_err-target-clause-guard g c m sides tells =
     refused_nowhere _ m (progress_of c.args.journal.phase) Finished _ _ c.from_residual.result c.from_residual.ensures.1 c.walk_one.ensures.told
 
 pub returns-in_err-target-clause-moves : goal.returns-in_err-target-clause-moves
-returns-in_err-target-clause-moves g c = moves_nowhere _ c.args.sides.now.target.root _ _ c.walk_one.ensures.told
+returns-in_err-target-clause-moves g c = moves_nowhere c.args.work.now _ c.args.sides.now.target.root _ _ c.walk_one.ensures.told
 
 pub returns-in_err-test_same-clause-guard : goal.returns-in_err-test_same-clause-guard
 returns-in_err-test_same-clause-guard g c m sides tells =
@@ -41,7 +41,7 @@ returns-in_err-test_same-clause-guard g c m sides tells =
     (c.test_same.ensures.told ∙ c.walk_one.ensures.told)
 
 pub returns-in_err-test_same-clause-moves : goal.returns-in_err-test_same-clause-moves
-returns-in_err-test_same-clause-moves g c = moves_nowhere _ c.args.sides.now.target.root _ _ (c.test_same.ensures.told ∙ c.walk_one.ensures.told)
+returns-in_err-test_same-clause-moves g c = moves_nowhere c.args.work.now _ c.args.sides.now.target.root _ _ (c.test_same.ensures.told ∙ c.walk_one.ensures.told)
 
 pub test_same-requires-clause-source : goal.test_same-requires-clause-source
 test_same-requires-clause-source g c =

@@ -48,7 +48,7 @@ returns-in_err-placed-clause-done g c phase all m sides tells =
 pub returns-in_err-placed-clause-moves : goal.returns-in_err-placed-clause-moves
 returns-in_err-placed-clause-moves g c =
     let root = c.args.sides.now.target.root in
-    moves_within (apart_from_both c.args.work.now root) (is_apart c.args.work.now root) root (g.F.Folder.told c.args.folder.now) (g.F.Folder.told c.place_missing.new.folder) (beside_staged c.args.work.now root)
+    moves_within c.args.work.now (apart_from_both c.args.work.now root) (is_apart c.args.work.now root) root (g.F.Folder.told c.args.folder.now) (g.F.Folder.told c.place_missing.new.folder) (beside_staged c.args.work.now root)
     c.place_missing.ensures.moves
 
 pub finish-requires-clause-walked : goal.finish-requires-clause-walked
@@ -59,7 +59,7 @@ finish-requires-clause-walked g c =
     let told = g.F.Folder.told c.args.folder.now in
     let here = g.F.Folder.told c.place_missing.new.folder in
     moving_stays (is_apart c.args.work.now to.root) rule from c.args.items.now.own.items c.args.items.now.mapped.items told here (λ rest. source_apart from.root to.root c.args.work.now rest c.requires.apart) (g.met.F.Folder.sound c.args.folder.now)
-    (moves_to (is_apart c.args.work.now to.root) to.root told here c.place_missing.ensures.moves) c.requires.walked
+    (moves_to c.args.work.now (is_apart c.args.work.now to.root) to.root told here c.place_missing.ensures.moves) c.requires.walked
 
 pub finish-requires-clause-work_folder : goal.finish-requires-clause-work_folder
 finish-requires-clause-work_folder g c =
@@ -68,7 +68,7 @@ finish-requires-clause-work_folder g c =
     let here = g.F.Folder.told c.place_missing.new.folder in
     subst (λ w. IfSeen here (λ v. IsWorkFolder v w)) (sym c.at.ensures)
     (work_folder_stays (is_apart c.args.work.now root) c.args.work.now told here (placing_has c.args.work.now root c.requires.apart.target) (g.met.F.Folder.sound c.args.folder.now)
-    (moves_to (is_apart c.args.work.now root) root told here c.place_missing.ensures.moves) c.requires.work_folder)
+    (moves_to c.args.work.now (is_apart c.args.work.now root) root told here c.place_missing.ensures.moves) c.requires.work_folder)
 
 pub returns-clause-building : goal.returns-clause-building
 returns-clause-building g c phase m sides tells =
@@ -91,8 +91,8 @@ returns-clause-moves g c =
     let root = c.args.sides.now.target.root in
     let told = g.F.Folder.told c.args.folder.now in
     let here = g.F.Folder.told c.place_missing.new.folder in
-    moves_on (apart_from_both c.args.work.now root) root told here (g.F.Folder.told c.finish.new.folder)
-    (moves_within (apart_from_both c.args.work.now root) (is_apart c.args.work.now root) root told here (beside_staged c.args.work.now root) c.place_missing.ensures.moves)
+    moves_on c.args.work.now (apart_from_both c.args.work.now root) root told here (g.F.Folder.told c.finish.new.folder)
+    (moves_within c.args.work.now (apart_from_both c.args.work.now root) (is_apart c.args.work.now root) root told here (beside_staged c.args.work.now root) c.place_missing.ensures.moves)
     (subst (λ w. MovesOnly w root here (g.F.Folder.told c.finish.new.folder)) c.at.ensures c.finish.ensures.moves)
 
 pub finish-requires-clause-stands : goal.finish-requires-clause-stands
@@ -102,7 +102,7 @@ finish-requires-clause-stands g c phase =
     let here = g.F.Folder.told c.place_missing.new.folder in
     subst (λ w. IfSeen here (λ v. StandsIn w c.args.journal v)) (sym c.at.ensures)
     (journal_stays (is_apart c.args.work.now root) c.args.work.now c.args.journal told here (placing_has c.args.work.now root c.requires.apart.target).journal (g.met.F.Folder.sound c.args.folder.now)
-    (moves_to (is_apart c.args.work.now root) root told here c.place_missing.ensures.moves) (c.requires.stands phase))
+    (moves_to c.args.work.now (is_apart c.args.work.now root) root told here c.place_missing.ensures.moves) (c.requires.stands phase))
 
 pub returns-clause-moved : goal.returns-clause-moved
 returns-clause-moved g c = subst (λ w. Moved c.args.journal.names c.args.sides.now.source c.args.sides.now.target w (g.F.Folder.told c.finish.new.folder) c.finish.result) c.at.ensures c.finish.ensures.moved
@@ -176,7 +176,7 @@ returns-clause-tidy g c =
     let here = g.F.Folder.told c.place_missing.new.folder in
     let after = g.F.Folder.told c.finish.new.folder in
     if_ok_more (λ done. StaysTidyWork work here after) (λ done. StaysTidyWork work told after) c.finish.result
-    (λ done stays was. stays (tidy_placed work root told here c.requires.apart.target (g.met.F.Folder.sound c.args.folder.now) (moves_to (is_apart work root) root told here c.place_missing.ensures.moves) c.in_ok-placed.ensures.ready was))
+    (λ done stays was. stays (tidy_placed work root told here c.requires.apart.target (g.met.F.Folder.sound c.args.folder.now) (moves_to c.args.work.now (is_apart work root) root told here c.place_missing.ensures.moves) c.in_ok-placed.ensures.ready was))
     (subst (λ w. IfOk c.finish.result (λ done. StaysTidyWork w here after)) c.at.ensures c.finish.ensures.tidy)
 
 pub returns-in_err-placed-clause-ends : goal.returns-in_err-placed-clause-ends

@@ -27,7 +27,7 @@ use Rattle.content_writing.specs.declared.fault.PutFault.{PutFault}
 
 -- once the directory is placed, or that has failed
 module _ (g : Over) (c : After-place_dir_keeping g) where
-  moves : MovesBeside (is_apart c.args.work.now c.args.sides.now.target.root) c.args.sides.now.target.root (g.F.Folder.told c.args.folder.now) (g.F.Folder.told c.place_dir_keeping.new.folder)
+  moves : MovesBeside (is_apart c.args.work.now c.args.sides.now.target.root) c.args.work.now c.args.sides.now.target.root (g.F.Folder.told c.args.folder.now) (g.F.Folder.told c.place_dir_keeping.new.folder)
   moves =
       made_moves c.args.sides.now.target c.args.work.now c.item.inside.path NewDirectory Whole c.place_dir_keeping.ensures.made.drawn (g.F.Folder.told c.args.folder.now) (g.F.Folder.told c.place_dir_keeping.new.folder) c.place_dir_keeping.result
       c.place_dir_keeping.ensures.made.makes c.requires.apart.target

@@ -42,7 +42,7 @@ gives g c =
 
 -- once the file is placed, or that has failed
 module _ (g : Over) (c : After-place_file_keeping-placed g) where
-  moves : MovesBeside (is_apart c.args.work.now c.args.sides.now.target.root) c.args.sides.now.target.root (g.F.Folder.told c.args.folder.now) (g.F.Folder.told c.place_file_keeping-placed.new.folder)
+  moves : MovesBeside (is_apart c.args.work.now c.args.sides.now.target.root) c.args.work.now c.args.sides.now.target.root (g.F.Folder.told c.args.folder.now) (g.F.Folder.told c.place_file_keeping-placed.new.folder)
   moves =
       let w = c.place_file_keeping-placed.ensures.made.writing in
       made_moves c.args.sides.now.target c.args.work.now c.item.inside.path (NewFile w.content) w.ending w.drawn (g.F.Folder.told c.args.folder.now) (g.F.Folder.told c.place_file_keeping-placed.new.folder) c.place_file_keeping-placed.result
@@ -66,7 +66,7 @@ module _ (g : Over) (c : After-place_file_keeping-placed g) where
       (subst (λ p. MakesFile New to c.args.work.now p coming after left left' told told' result) (ap (λ (x : Planned). x.path) c.item.view_is) made)
 
 pub returns-in_err-content-clause-moves : goal.returns-in_err-content-clause-moves
-returns-in_err-content-clause-moves g c = moves_nowhere _ c.args.sides.now.target.root _ _ refl
+returns-in_err-content-clause-moves g c = moves_nowhere c.args.work.now _ c.args.sides.now.target.root _ _ refl
 
 pub place_file_keeping-placed-requires-clause-ready : goal.place_file_keeping-placed-requires-clause-ready
 place_file_keeping-placed-requires-clause-ready g c =

@@ -34,7 +34,7 @@ loop-item-init g c =
       few = omega arith;
       ready = c.requires.ready;
       led = λ m sides. (still_guards m Begun told told refl, still_leads m Begun told told refl);
-      moves = moves_nowhere _ c.args.sides.now.target.root _ _ refl;
+      moves = moves_nowhere c.args.work.now _ c.args.sides.now.target.root _ _ refl;
       counted = λ ordered. refl;
       written = λ ordered. texts_alone c.args.sides.now.source c.args.sides.now.target [] [] (g.R.Randoms.left c.args.random.now) (g.R.Randoms.left c.args.random.now) told told
           (c.draws_compose.ensures.none (g.R.Randoms.left c.args.random.now)) (only_nowhere (BringsOnlyTo c.args.sides.now.target.root (λ at. ⊥)) (λ file. Contains [] file) told told refl);
@@ -74,7 +74,7 @@ returns-in_err-place_missing_one-clause-guard g c m sides =
 pub returns-in_err-place_missing_one-clause-moves : goal.returns-in_err-place_missing_one-clause-moves
 returns-in_err-place_missing_one-clause-moves g c =
     let to = c.args.sides.now.target in
-    moves_on (is_apart c.args.work.now to.root) to.root (g.F.Folder.told c.args.folder.now) (g.F.Folder.told c.loop-item.folder) (g.F.Folder.told c.place_missing_one.new.folder)
+    moves_on c.args.work.now (is_apart c.args.work.now to.root) to.root (g.F.Folder.told c.args.folder.now) (g.F.Folder.told c.loop-item.folder) (g.F.Folder.told c.place_missing_one.new.folder)
     c.loop-item.invariant.moves c.place_missing_one.ensures.moves
 
 pub returns-in_err-place_missing_one-clause-none : goal.returns-in_err-place_missing_one-clause-none
@@ -141,7 +141,7 @@ loop-item-preserved g c =
           let led = i.led m sides in
           let more = c.in_ok-place_missing_one.ensures.guard m sides in
           (guards_on m Begun Begun told here told' led.0 led.1 more.0, leads_on m Begun Begun Begun told here told' led.1 more.1);
-      moves = moves_on (is_apart c.args.work.now to.root) to.root told here told' i.moves c.place_missing_one.ensures.moves;
+      moves = moves_on c.args.work.now (is_apart c.args.work.now to.root) to.root told here told' i.moves c.place_missing_one.ensures.moves;
       counted = λ ordered.
           let one = c.in_ok-place_missing_one.ensures.counted ordered in
           elim c.if-branch.branch [
@@ -254,7 +254,7 @@ returns-in_err-place_missing_one-clause-stops g c =
     let walked = mapped_stay rule from to.root work items told here c.requires.apart (g.met.F.Folder.sound c.args.folder.now) i.moves c.requires.walked in
     fault_as _ c.from_residual.result c.from_residual.ensures.1
     (stops_more (SharesFrom (Lacks rule from to item) to (item ∷ []) left1 left2 here told') (SharesFrom (IsFilled rule from to there) to items left left2 told told') c.in_err-place_missing_one.field-0.0
-    (shares_before (is_apart work to.root) to.root (Lacks rule from to item) (IsFilled rule from to there) to (item ∷ []) items left left1 left2 told here told' i.moves
+    (shares_before c.args.work.now (is_apart work to.root) to.root (Lacks rule from to item) (IsFilled rule from to there) to (item ∷ []) items left left1 left2 told here told' i.moves
     (λ v w is_v is_w h.
     let copied = i.copied v w is_v is_w h.0 in
     next_lacks rule from to there items k item w (source_tells c.walks_tell_the_tree.ensures.plan c.mapped_walks_tell_the_mapped_tree.ensures.apart rule from items here w walked is_w copied.copying.source.orderly) c.loop-item-test.true c.item-item.is

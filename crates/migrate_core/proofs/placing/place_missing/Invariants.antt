@@ -21,7 +21,7 @@ invariant-loop-item g l = record {
   few : l.placed ≤ l.item-index;
   ready : IfSeen (g.F.Folder.told l.folder) (λ v. IsReady v l.work);
   led : HasLed l.sides.names l.sides.source l.sides.target l.work Begun Begun (g.F.Folder.told l.initial.folder) (g.F.Folder.told l.folder);
-  moves : MovesBeside (is_apart l.work l.sides.target.root) l.sides.target.root (g.F.Folder.told l.initial.folder) (g.F.Folder.told l.folder);
+  moves : MovesBeside (is_apart l.work l.sides.target.root) l.work l.sides.target.root (g.F.Folder.told l.initial.folder) (g.F.Folder.told l.folder);
   counted : IsOrdered l.there → l.placed ≡ lacking l.there (take l.item-index l.items);
   written : IsOrdered l.there → WritesAll l.sides.source l.sides.target (lacked l.there (take l.item-index l.items)) [] (g.R.Randoms.left l.initial.random) (g.R.Randoms.left l.random)
       (g.F.Folder.told l.initial.folder) (g.F.Folder.told l.folder);

@@ -30,7 +30,7 @@ returns-then-stands-clause-guard g c m sides =
     (still_guards m Begun told told refl, still_leads m Begun told told refl)
 
 pub returns-then-stands-clause-moves : goal.returns-then-stands-clause-moves
-returns-then-stands-clause-moves g c = moves_nowhere _ c.args.sides.now.target.root _ _ refl
+returns-then-stands-clause-moves g c = moves_nowhere _ _ c.args.sides.now.target.root _ _ refl
 
 pub returns-in_err-place-clause-written : goal.returns-in_err-place-clause-written
 returns-in_err-place-clause-written g c ordered =

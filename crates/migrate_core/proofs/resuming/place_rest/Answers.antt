@@ -84,7 +84,7 @@ pub go_on-requires-clause-there : goal.go_on-requires-clause-there
 go_on-requires-clause-there g c = λ v seen.
     let root = c.args.sides.now.target.root in
     subst IsOrdered (sym c.as_slice-there.ensures)
-    (still_known (IsOrdered c.args.target.now.items) (apart_from_both c.args.work.now root) root (g.F.Folder.told c.args.folder.now) (g.F.Folder.told c.again.new.folder) (readied g (goal.at.go_on-requires-clause-there g c).After-again).moves c.requires.target.ordered v seen)
+    (still_known c.args.work.now (IsOrdered c.args.target.now.items) (apart_from_both c.args.work.now root) root (g.F.Folder.told c.args.folder.now) (g.F.Folder.told c.again.new.folder) (readied g (goal.at.go_on-requires-clause-there g c).After-again).moves c.requires.target.ordered v seen)
 
 pub go_on-requires-clause-work_folder : goal.go_on-requires-clause-work_folder
 go_on-requires-clause-work_folder g c = λ v seen.
@@ -101,7 +101,7 @@ returns-clause-moves g c =
     let t1 = g.F.Folder.told c.again.new.folder in
     let t2 = g.F.Folder.told c.go_on.new.folder in
     let root = c.args.sides.now.target.root in
-    moves_on (apart_from_both c.args.work.now root) root (g.F.Folder.told c.args.folder.now) t1 t2 (readied g (goal.at.returns-clause-moves g c).After-again).moves (subst (λ w. MovesOnly w root t1 t2) c.in_ok-again.ensures.path c.go_on.ensures.moves)
+    moves_on c.args.work.now (apart_from_both c.args.work.now root) root (g.F.Folder.told c.args.folder.now) t1 t2 (readied g (goal.at.returns-clause-moves g c).After-again).moves (subst (λ w. MovesOnly w root t1 t2) c.in_ok-again.ensures.path c.go_on.ensures.moves)
 
 pub returns-clause-guard : goal.returns-clause-guard
 returns-clause-guard g c = λ migration sides tells.
@@ -117,7 +117,7 @@ returns-clause-guard g c = λ migration sides tells.
     let there = c.args.target.now.items in
     let again = c.in_ok-again.again in
     let done : Result (Unit {0}) (Unit {0}) = Ok tt in
-    rest_goes c.guarded_migrations_are_seen.ensures.alone c.walks_tell_the_tree.ensures.plan (apart_from_both work to.root) to.root migration from to again journal own mapped there t0 t1 t2 c.go_on.result
+    rest_goes c.args.work.now c.guarded_migrations_are_seen.ensures.alone c.walks_tell_the_tree.ensures.plan (apart_from_both work to.root) to.root migration from to again journal own mapped there t0 t1 t2 c.go_on.result
     (returns-clause-moves g c) (record { source = sides.source; target = sides.target; names = sides.names; work = c.in_ok-again.ensures.path ∙ sides.work }) tells
     (subst (λ n. AreItemsToMove n t0 from own mapped) (sym c.requires.names_named) c.requires.source) c.requires.target
     (λ p. alone_goes migration p t0 t1 done (stage_alone c.settling_and_entering_keep_migrations_guarded.ensures.restages migration p work t0 t1 sides.work c.again.ensures.restages.moments))

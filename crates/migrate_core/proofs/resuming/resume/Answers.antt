@@ -34,14 +34,14 @@ returns-clause-guard g c = λ migration resumed opened.
 
 pub returns-in_err-settle-clause-moves : goal.returns-in_err-settle-clause-moves
 returns-in_err-settle-clause-moves g c = λ v journal seen is stands.
-    settle_moves (apart_from_both c.args.work.now journal.target) journal.target (g.F.Folder.told c.args.folder.now) (g.F.Folder.told c.settle.new.self) c.settle.result c.settle.ensures.changes
+    settle_moves c.args.work.now (apart_from_both c.args.work.now journal.target) journal.target (g.F.Folder.told c.args.folder.now) (g.F.Folder.told c.settle.new.self) c.settle.result c.settle.ensures.changes
 
 pub returns-clause-moves : goal.returns-clause-moves
 returns-clause-moves g c = λ v journal seen is stands.
     let region = apart_from_both c.args.work.now journal.target in
     let t0 = g.F.Folder.told c.args.folder.now in
     let t1 = g.F.Folder.told c.settle.new.self in
-    moves_on region journal.target t0 t1 (g.F.Folder.told c.resume_settled.new.folder) (settle_moves region journal.target t0 t1 c.settle.result c.settle.ensures.changes)
+    moves_on c.args.work.now region journal.target t0 t1 (g.F.Folder.told c.resume_settled.new.folder) (settle_moves c.args.work.now region journal.target t0 t1 c.settle.result c.settle.ensures.changes)
     (c.resume_settled.ensures.moves v journal (settle_seen t0 t1 c.in_ok-settle.field-0 c.in_ok-settle.ensures.changes v seen) is stands)
 
 pub returns-clause-moved : goal.returns-clause-moved

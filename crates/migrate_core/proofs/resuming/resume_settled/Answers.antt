@@ -68,15 +68,15 @@ returns-clause-guard g c = λ migration resumed opened.
 
 pub returns-in_err-journal-clause-moves : goal.returns-in_err-journal-clause-moves
 returns-in_err-journal-clause-moves g c = λ v journal seen is stands.
-    moves_nowhere _ journal.target _ _ c.read.ensures.told
+    moves_nowhere c.args.work.now _ journal.target _ _ c.read.ensures.told
 
 pub returns-in_err-test_apart-clause-moves : goal.returns-in_err-test_apart-clause-moves
 returns-in_err-test_apart-clause-moves g c = λ v journal seen is stands.
-    moves_nowhere _ journal.target _ _ c.read.ensures.told
+    moves_nowhere c.args.work.now _ journal.target _ _ c.read.ensures.told
 
 pub returns-in_err-look_again-clause-moves : goal.returns-in_err-look_again-clause-moves
 returns-in_err-look_again-clause-moves g c = λ v journal seen is stands.
-    moves_nowhere _ journal.target _ _ (c.look_again.ensures.told ∙ c.read.ensures.told)
+    moves_nowhere c.args.work.now _ journal.target _ _ (c.look_again.ensures.told ∙ c.read.ensures.told)
 
 pub returns-clause-moves : goal.returns-clause-moves
 returns-clause-moves g c = λ v journal seen is stands.

@@ -32,13 +32,13 @@ pub returns-in_err-test_source-clause-guard : goal.returns-in_err-test_source-cl
 returns-in_err-test_source-clause-guard g c migration resumed opened = still_settled migration _ _ c.test_source.ensures.told
 
 pub returns-in_err-test_source-clause-moves : goal.returns-in_err-test_source-clause-moves
-returns-in_err-test_source-clause-moves g c = moves_nowhere _ c.args.journal.target _ _ c.test_source.ensures.told
+returns-in_err-test_source-clause-moves g c = moves_nowhere c.args.work.now _ c.args.journal.target _ _ c.test_source.ensures.told
 
 pub returns-in_err-sides-clause-guard : goal.returns-in_err-sides-clause-guard
 returns-in_err-sides-clause-guard g c migration resumed opened = still_settled migration _ _ (c.load_both.ensures.told ∙ c.test_source.ensures.told)
 
 pub returns-in_err-sides-clause-moves : goal.returns-in_err-sides-clause-moves
-returns-in_err-sides-clause-moves g c = moves_nowhere _ c.args.journal.target _ _ (c.load_both.ensures.told ∙ c.test_source.ensures.told)
+returns-in_err-sides-clause-moves g c = moves_nowhere c.args.work.now _ c.args.journal.target _ _ (c.load_both.ensures.told ∙ c.test_source.ensures.told)
 
 pub resume_with-requires-clause-apart : goal.resume_with-requires-clause-apart
 resume_with-requires-clause-apart g c = subst₂ (λ p q. AreSeparate p q c.args.work.now) (sym c.in_ok-sides.ensures.source) (sym c.in_ok-sides.ensures.target) c.requires.apart
@@ -55,7 +55,7 @@ returns-clause-guard g c = λ migration resumed opened.
     let sides = c.in_ok-sides.sides in
     let loads = c.in_ok-sides.ensures in
     let journal = c.args.journal in
-    settled_by (apart_from_both c.args.work.now sides.target.root) sides.target.root migration (progress_of journal.phase) t0 t3
+    settled_by c.args.work.now (apart_from_both c.args.work.now sides.target.root) sides.target.root migration (progress_of journal.phase) t0 t3
     (subst (λ t. MovesOnly c.args.work.now sides.target.root t t3) same c.resume_with.ensures.moves)
     (λ a is settled.
     let v = seen a.state in

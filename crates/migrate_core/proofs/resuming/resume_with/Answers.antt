@@ -37,7 +37,7 @@ pub returns-in_err-plans-clause-guard : goal.returns-in_err-plans-clause-guard
 returns-in_err-plans-clause-guard g c migration sides tells = refused_nowhere _ migration (progress_of c.args.journal.phase) Finished _ _ c.from_residual.result c.from_residual.ensures.1 c.walk_both.ensures.told
 
 pub returns-in_err-plans-clause-moves : goal.returns-in_err-plans-clause-moves
-returns-in_err-plans-clause-moves g c = moves_nowhere _ c.args.sides.now.target.root _ _ c.walk_both.ensures.told
+returns-in_err-plans-clause-moves g c = moves_nowhere c.args.work.now _ c.args.sides.now.target.root _ _ c.walk_both.ensures.told
 
 pub test_plans-requires-clause-source : goal.test_plans-requires-clause-source
 test_plans-requires-clause-source g c = subst (λ t. IsWalked t c.args.sides.now.source c.in_ok-plans.plans.source.items) (sym c.walk_both.ensures.told) c.in_ok-plans.ensures.source
@@ -49,7 +49,7 @@ pub returns-in_err-mapped-clause-guard : goal.returns-in_err-mapped-clause-guard
 returns-in_err-mapped-clause-guard g c migration sides tells = refused_nowhere _ migration (progress_of c.args.journal.phase) Finished _ _ c.from_residual-in_err-mapped.result c.from_residual-in_err-mapped.ensures.1 (c.test_plans.ensures.told ∙ c.walk_both.ensures.told)
 
 pub returns-in_err-mapped-clause-moves : goal.returns-in_err-mapped-clause-moves
-returns-in_err-mapped-clause-moves g c = moves_nowhere _ c.args.sides.now.target.root _ _ (c.test_plans.ensures.told ∙ c.walk_both.ensures.told)
+returns-in_err-mapped-clause-moves g c = moves_nowhere c.args.work.now _ c.args.sides.now.target.root _ _ (c.test_plans.ensures.told ∙ c.walk_both.ensures.told)
 
 pub place_rest-requires-clause-used : goal.place_rest-requires-clause-used
 place_rest-requires-clause-used g c = λ v seen. c.requires.used v (subst (λ t. IsSeen t v) (c.test_plans.ensures.told ∙ c.walk_both.ensures.told) seen)

@@ -69,6 +69,11 @@ is_of_begin (Changed plan items plan' items') = false
 is_of_begin SourceGone = false
 is_of_begin fault = true
 
+-- so it may where its folders don't overlap
+abbrev pub is_of_apart : MoveFault → Bool
+is_of_apart (Overlap first second) = false
+is_of_apart fault = is_of_begin fault
+
 -- and one that goes on
 abbrev pub is_of_resume : MoveFault → Bool
 is_of_resume fault = true

@@ -1,5 +1,5 @@
 //! Beginning a migration.
-ghost use Rattle.std.specs.Prelude.{◌≡◌, ◌⊎◌, ◌≤◌, [], IfErr, IfOk, Ok, OnOk};
+ghost use Rattle.std.specs.Prelude.{◌≡◌, ◌⊎◌, ◌≤◌, [], IfErr, IfOk, IsTrue, Ok, OnOk};
 ghost use Rattle.port_model.specs.Counts.{CountRose};
 ghost use Rattle.folder_spec.specs.Seen.{IfSeen};
 ghost use Rattle.move_journal.specs.Journal.{IsParsed};
@@ -10,7 +10,7 @@ ghost use Rattle.work_folder.specs.Entering.{Empties, EntersAs};
 ghost use Rattle.migrate_core.specs.Causes.{Begins, BeginsApart, BeginsWith, IsOfPlacing, Moves, PassesBegin, TestsEmpty, TestsToBegin, Unless};
 ghost use Rattle.migrate_core.specs.Completing.{CanBegin, IsOfChance};
 ghost use Rattle.migrate_core.specs.Copying.{MayBegin, StayGood};
-ghost use Rattle.migrate_core.specs.Faults.{Blamed, IsOfTest, is_of_begin};
+ghost use Rattle.migrate_core.specs.Faults.{Blamed, IsOfTest, is_of_apart, is_of_begin};
 ghost use Rattle.migrate_core.specs.Leading.{KeepsSettled, LeadsEach};
 ghost use Rattle.migrate_core.specs.Limits.{StopsElsewhere, EndsBy, IsOfLimit, PassesInTree};
 ghost use Rattle.migrate_core.specs.Moved.{IsTidyWork, Moved, MovesTree, Placed, lacking};
@@ -69,6 +69,7 @@ pub fn begin<F: Folder, R: Randoms>(
     ensures grows { F.faults folder.old ≤ F.faults folder.new }
     ensures random { R.faults random.old ≤ R.faults random.new }
     ensures blamed { IfErr result (Blamed is_of_begin (CountRose (F.faults folder.old) (F.faults folder.new)) (CountRose (R.faults random.old) (R.faults random.new))) }
+    ensures apart { AreSeparate source.now target.now work.now → IfErr result (λ fault. IsTrue (is_of_apart fault)) }
     ensures cause { IfSeen (F.told folder.old) (λ v. Unless result (Begins names source.now target.now work.now source_pass.now target_pass.now v result)) }
     ensures written { IfSeen (F.told folder.old) (λ v. MayWriteTree result names source.now target.now work.now source_pass.now target_pass.now (R.left random.old) (R.left random.new) (F.told folder.old) (F.told folder.new)) }
     ensures tested { ChangesNothing (F.told folder.old) (F.told folder.new) ⊎ IfSeen (F.told folder.old) (λ v. IfErr result IsOfPlacing × PassesBegin names source.now target.now work.now source_pass.now target_pass.now v) }
@@ -115,7 +116,7 @@ fn begin_settled<F: Folder, R: Randoms>(
     ensures moves { MovesOnly work.now target.now (F.told folder.old) (F.told folder.new) }
     ensures grows { F.faults folder.old ≤ F.faults folder.new }
     ensures random { R.faults random.old ≤ R.faults random.new }
-    ensures blamed { IfErr result (Blamed is_of_begin (CountRose (F.faults folder.old) (F.faults folder.new)) (CountRose (R.faults random.old) (R.faults random.new))) }
+    ensures blamed { IfErr result (Blamed is_of_apart (CountRose (F.faults folder.old) (F.faults folder.new)) (CountRose (R.faults random.old) (R.faults random.new))) }
     ensures cause { IfSeen (F.told folder.old) (λ v. Unless result (BeginsApart names source.now target.now work.now source_pass.now target_pass.now v result)) }
     ensures too_long { IfErr result (IsOfLimit (PassesInTree names source.now target.now source_pass.now target_pass.now (F.told folder.old) (F.told folder.new))) }
     ensures shared { IfErr result (IsOfTaken (SharesInTree names source.now target.now source_pass.now target_pass.now (R.left random.old) (R.left random.new) (F.told folder.old) (F.told folder.new))) }
@@ -156,7 +157,7 @@ fn begin_with<F: Folder, R: Randoms>(
     ensures moves { MovesOnly work.now sides.now.target.root (F.told folder.old) (F.told folder.new) }
     ensures grows { F.faults folder.old ≤ F.faults folder.new }
     ensures random { R.faults random.old ≤ R.faults random.new }
-    ensures blamed { IfErr result (Blamed is_of_begin (CountRose (F.faults folder.old) (F.faults folder.new)) (CountRose (R.faults random.old) (R.faults random.new))) }
+    ensures blamed { IfErr result (Blamed is_of_apart (CountRose (F.faults folder.old) (F.faults folder.new)) (CountRose (R.faults random.old) (R.faults random.new))) }
     ensures cause { IfSeen (F.told folder.old) (λ v. Unless result (BeginsWith sides.now.names sides.now.source sides.now.target work.now v result)) }
     ensures ends { EndsBy (StayGood sides.now.source sides.now.target (F.told folder.old) (F.told folder.new)) (SharesWhereTidy sides.now.names sides.now.source sides.now.target (R.left random.old) (R.left random.new) (F.told folder.old) (F.told folder.new)) sides.now.names sides.now.source sides.now.target (F.told folder.new) result }
     ensures written { MayWrite result sides.now.names sides.now.source sides.now.target work.now (R.left random.old) (R.left random.new) (F.told folder.old) (F.told folder.new) }
@@ -180,7 +181,7 @@ fn test_empty(items: &[PlanItem]) -> Result<(), MoveFault>
     ensures empty { OnOk result (items.now ≡ []) }
     ensures tested { IfErr result IsOfTest }
     ensures uncompared { IfErr result StopsElsewhere }
-    ensures blamed { IfErr result (Blamed is_of_begin ⊥ ⊥) }
+    ensures blamed { IfErr result (Blamed is_of_apart ⊥ ⊥) }
     ensures cause { Unless result (TestsEmpty items.now result) }
 {
     match items.first() {
@@ -212,7 +213,7 @@ fn move_all<F: Folder, R: Randoms>(
     ensures moves { MovesOnly work.now sides.now.target.root (F.told folder.old) (F.told folder.new) }
     ensures grows { F.faults folder.old ≤ F.faults folder.new }
     ensures random { R.faults random.old ≤ R.faults random.new }
-    ensures blamed { IfErr result (Blamed is_of_begin (CountRose (F.faults folder.old) (F.faults folder.new)) (CountRose (R.faults random.old) (R.faults random.new))) }
+    ensures blamed { IfErr result (Blamed is_of_apart (CountRose (F.faults folder.old) (F.faults folder.new)) (CountRose (R.faults random.old) (R.faults random.new))) }
     ensures cause { IfSeen (F.told folder.old) (λ v. Unless result (Moves (EntersAs v work.now) sides.now.source sides.now.target v items.now.mapped.items result)) }
     ensures ends { EndsBy (StayGood sides.now.source sides.now.target (F.told folder.old) (F.told folder.new)) (SharesFrom (IsFilled sides.now.names sides.now.source sides.now.target []) sides.now.target items.now.mapped.items (R.left random.old) (R.left random.new) (F.told folder.old) (F.told folder.new)) sides.now.names sides.now.source sides.now.target (F.told folder.new) result }
     ensures unready { WritesBeside sides.now.target.root (λ file. ⊥) (F.told folder.old) (F.told folder.new) ⊎ IfSeen (F.told folder.old) (λ v. Empties v work.now (Ok tt)) }

@@ -5,7 +5,7 @@ ghost use Rattle.migration_sides.specs.Tests.{nothing_follows};
 ghost use Rattle.tree_match.specs.Mapping.{IsMappedPlan, MapsTo};
 ghost use Rattle.vault_spec.specs.Vault.{format_of};
 ghost use Rattle.migrate_core.specs.Causes.{ForbidsMappedLast, Refuses, TestsMapped, TestsNames, Unless};
-ghost use Rattle.migrate_core.specs.Faults.{Blamed, IsOfTest, is_of_begin};
+ghost use Rattle.migrate_core.specs.Faults.{Blamed, IsOfTest, is_of_apart};
 ghost use Rattle.migrate_core.specs.Limits.{StopsElsewhere};
 ghost use Rattle.migrate_core.specs.Sides.{AllowsEach, AllowsEachMapped, AllowsMappedLast};
 ghost use Rattle.migrate_core.specs.declared.fault.MoveFault.TheVariants.{NoMemory};
@@ -25,7 +25,7 @@ pub(crate) fn map_allowed(alloc: Global, sides: &Sides, plan: &Plan) -> Result<P
     ensures named { OnOk result (AllowsEachMapped sides.now.names (format_of sides.now.target.vault) plan.now.items) }
     ensures tested { IfErr result IsOfTest }
     ensures uncompared { IfErr result StopsElsewhere }
-    ensures blamed { IfErr result (Blamed is_of_begin ⊥ ⊥) }
+    ensures blamed { IfErr result (Blamed is_of_apart ⊥ ⊥) }
     ensures passed { OnOk result (TestsNames sides.now.names (format_of sides.now.target.vault) plan.now.items (Ok tt)) }
     ensures maps { IfOk result (λ mapped. MapsTo sides.now.names plan.now.items (Ok mapped)) }
     ensures cause { IfErr result (Refuses (TestsMapped sides.now.names (format_of sides.now.target.vault) plan.now.items nothing_follows)) }
@@ -44,7 +44,7 @@ fn test_names(
     ensures allowed { OnOk result (AllowsEachMapped names (format_of vault.now.vault) items.now) }
     ensures tested { IfErr result IsOfTest }
     ensures uncompared { IfErr result StopsElsewhere }
-    ensures blamed { IfErr result (Blamed is_of_begin ⊥ ⊥) }
+    ensures blamed { IfErr result (Blamed is_of_apart ⊥ ⊥) }
     ensures cause { Unless result (TestsNames names (format_of vault.now.vault) items.now result) }
 {
     for item in items {
@@ -63,7 +63,7 @@ fn test_name(
     ensures allowed { OnOk result (AllowsMappedLast names (format_of vault.now.vault) path.now) }
     ensures tested { IfErr result IsOfTest }
     ensures uncompared { IfErr result StopsElsewhere }
-    ensures blamed { IfErr result (Blamed is_of_begin ⊥ ⊥) }
+    ensures blamed { IfErr result (Blamed is_of_apart ⊥ ⊥) }
     ensures forbids { IfErr result (λ fault. (fault ≡ NoMemory) ⊎ (ForbidsMappedLast names (format_of vault.now.vault) path.now × (fault ≡ MoveFault.NotAllowed path.now))) }
 {
     match path.names().split_last() {
@@ -83,7 +83,7 @@ fn allow(
     ensures allowed { OnOk result (AllowsMapped names (format_of vault.now.vault) name.now) }
     ensures tested { IfErr result IsOfTest }
     ensures uncompared { IfErr result StopsElsewhere }
-    ensures blamed { IfErr result (Blamed is_of_begin ⊥ ⊥) }
+    ensures blamed { IfErr result (Blamed is_of_apart ⊥ ⊥) }
     ensures forbids { IfErr result (λ fault. (fault ≡ NoMemory) ⊎ ((¬ AllowsMapped names (format_of vault.now.vault) name.now) × (fault ≡ MoveFault.NotAllowed path.now))) }
 {
     let mapped = match names.apply(alloc, name) {

@@ -4,12 +4,13 @@ use Rattle.content_writing.specs.Trees.{ShowsVault}
 use Rattle.folder_spec.specs.Path.{Path}
 use Rattle.folder_spec.specs.Seen.{under}
 use Rattle.folder_spec.specs.View.{View}
-use Rattle.migration_sides.specs.Causes.{Answer, Opens, TestsApart, TestsPair, Walks, WalksBoth, of_refusal}
+use Rattle.migration_sides.specs.Causes.{Answer, Opens, TestsApart, TestsPair, Unless, Walks, WalksBoth, of_refusal}
 use Rattle.migration_sides.specs.Faults.{of_walk}
 use Rattle.migration_sides.specs.Sides.{opened_in}
 use Rattle.migration_sides.specs.Tests.{PassesOr, Then, own}
 use Rattle.migration_sides.specs.declared.fault.Side.TheVariants.{Source, Target}
 use Rattle.migration_sides.specs.declared.fault.StepFault.{StepFault}
+use Rattle.migration_sides.specs.declared.fault.StepFault.TheVariants.{Overlap}
 use Rattle.move_journal.specs.Writing.{GivesBack}
 use Rattle.move_journal.specs.declared.journal.Journal.{Journal}
 use Rattle.move_journal.specs.declared.journal.JournalFault.{JournalFault}
@@ -23,7 +24,7 @@ use Rattle.vault_spec.specs.Vault.{Cryptomator, Gocryptfs, LoadRefusal, Loads, V
 use Rattle.vault_walk.specs.Surveyed.{IsPlanOf, IsWithin}
 use Rattle.vault_walk.specs.declared.fault.WalkFault.{WalkFault}
 use Rattle.vault_walk.specs.declared.fault.WalkFault.TheVariants as walk
-use Rattle.folder_spec.specs.Apart.{AreApart}
+use Rattle.folder_spec.specs.Apart.{AreApart, AreSeparate}
 use Rattle.work_folder.specs.Entries.{HasNoForeign}
 use Rattle.work_folder.specs.Looking.{TestsEntries}
 use Rattle.work_folder.specs.declared.fault.WorkFault.{WorkFault}
@@ -83,6 +84,13 @@ apart_passes p q work one two three t tested =
 
 pub apart_met : (Chance : StepFault → Type 0) (p q work : Path) → AreApart p q → AreApart p work → AreApart q work → (t : Answer (Unit {0})) → TestsApart p q work t → OnlyBy Chance Any t
 apart_met Chance p q work one two three t tested = subst (OnlyBy Chance Any) (sym (apart_passes p q work one two three t tested)) tt
+
+-- folders that don't overlap aren't told to do
+pub none_overlap : (from to work first second : Path) → AreSeparate from to work → Unless {X = Unit {0}} (Err (Overlap first second)) (TestsApart from to work (Err (Overlap first second))) → ⊥
+none_overlap from to work first second separate (inl failed) = cc
+none_overlap from to work first second separate (inr (inl memory)) = cc
+none_overlap from to work first second separate (inr (inr tested)) =
+    let clash : Err (Overlap first second) ≡ Ok tt = apart_passes from to work separate.vaults separate.source separate.target (Err (Overlap first second)) tested in cc
 
 -- ---- the vaults
 

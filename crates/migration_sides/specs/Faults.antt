@@ -21,15 +21,23 @@ of_walk walk.Failed = Failed
 of_walk walk.NoMemory = NoMemory
 of_walk fault = Walk fault
 
--- The faults that a step may answer: the folder's failing and want of memory as such alone.
+-- The faults that opening and walking vaults may answer: the folder's failing and want of memory as such alone, and nothing of folders
+-- that overlap.
 abbrev pub IsStepFault : StepFault → Type 0
+IsStepFault (Overlap first second) = ⊥
 IsStepFault (Load side load.Failed) = ⊥
 IsStepFault (Load side load.NoMemory) = ⊥
 IsStepFault (Walk walk.Failed) = ⊥
 IsStepFault (Walk walk.NoMemory) = ⊥
 IsStepFault fault = Unit {0}
 
--- of these, and the folder is named as failing only for a reason
+-- the faults that testing the folders may answer
+abbrev pub IsApartFault : StepFault → Type 0
+IsApartFault (Overlap first second) = Unit {0}
+IsApartFault NoMemory = Unit {0}
+IsApartFault fault = ⊥
+
+-- of the first, and the folder is named as failing only for a reason
 pub record IsBlamed (folder : Type 0) (fault : StepFault) : Type 0 where
   pub own : IsStepFault fault
   pub failed : fault ≡ Failed → folder

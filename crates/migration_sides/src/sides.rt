@@ -2,7 +2,7 @@
 ghost use Rattle.std.specs.Prelude.{◌≡◌, ◌≤◌, IfErr, IfOk, OnOk, Ok};
 ghost use Rattle.folder_spec.specs.Seen.{IfSeen, under};
 ghost use Rattle.migration_sides.specs.Causes.{Opens, Refuses, of_refusal, TestsApart, TestsPair, Unless, Walks, WalksBoth};
-ghost use Rattle.migration_sides.specs.Faults.{IsBlamed, of_walk};
+ghost use Rattle.migration_sides.specs.Faults.{IsApartFault, IsBlamed, of_walk};
 ghost use Rattle.migration_sides.specs.Sides.{IsWalked};
 ghost use Rattle.folder_spec.specs.Apart.{AreSeparate, AreApart};
 ghost use Rattle.migration_sides.specs.Tests.{Then, nothing_follows, own};
@@ -117,7 +117,7 @@ pub fn walk_one<F: Folder>(alloc: Global, folder: &mut F, vault: &Vault) -> Resu
 /// Tests that no two of the three folders overlap: the source and the target first, then each with the work folder.
 pub fn test_apart(source: &FPath, target: &FPath, work: &FPath) -> Result<(), StepFault>
     ensures apart { OnOk result (AreSeparate source.now target.now work.now) }
-    ensures blamed { IfErr result (IsBlamed ⊥) }
+    ensures own { IfErr result IsApartFault }
     ensures cause { Unless result (TestsApart source.now target.now work.now result) }
 {
     test_pair(source, target)?;
@@ -127,7 +127,7 @@ pub fn test_apart(source: &FPath, target: &FPath, work: &FPath) -> Result<(), St
 
 fn test_pair(first: &FPath, second: &FPath) -> Result<(), StepFault>
     ensures apart { OnOk result (AreApart first.now second.now) }
-    ensures blamed { IfErr result (IsBlamed ⊥) }
+    ensures own { IfErr result IsApartFault }
     ensures cause { Unless result (TestsPair first.now second.now result) }
 {
     if first.starts_with(second) || second.starts_with(first) {

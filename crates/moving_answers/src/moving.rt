@@ -21,6 +21,7 @@ pub fn answer_to_move(work: &FPath, root: &FPath, fault: MoveFault) -> Answer
     ensures drawn { result ≡ Answer.RandomFault → fault ≡ MoveFault.Place PutFault.Random }
     ensures zeros { result ≡ Answer.ZeroRandom → fault ≡ MoveFault.Place PutFault.ZeroRandom }
     ensures taken { (at : Path) → result ≡ Answer.Taken at → fault ≡ MoveFault.Place (PutFault.Taken at) }
+    ensures overlap { (first second : Path) → result ≡ Answer.Overlap first second → fault ≡ MoveFault.Overlap first second }
     ensures begins { IsMoveFault fault → IsTrue (is_of_begin fault) → IsTrue (is_of_stop result) }
     ensures goes_on { IsMoveFault fault → IsTrue (is_of_told_stop result) }
 {

@@ -1,6 +1,6 @@
 -- Migrations that are led on: nothing is lost at any moment, and what was done where one wasn't begun.
 use Rattle.std.proofs.Common.{◌≡◌, ℕ, Bool, true, false, List, Option, Some, None, Result, Ok, Err, inl, inr, refl, sym, ap, ◌∙◌, subst, IsTrue, ◌⊎◌}
-use Rattle.std.specs.Prelude.{◌≢◌, MatchOption, MatchResult, if◌then◌else◌}
+use Rattle.std.specs.Prelude.{◌≢◌, ◌||◌, MatchOption, MatchResult, if◌then◌else◌}
 use Rattle.std.proofs.lemmas.Bool.{or_left}
 use Rattle.std.specs.Io.KnownBytes as known
 use Rattle.std.proofs.KnownBytes.{Keeps-refl}
@@ -8,7 +8,8 @@ use Rattle.content_writing.specs.declared.fault.PutFault.TheVariants as puts
 use Rattle.folder_spec.specs.Event.{Told}
 use Rattle.folder_spec.specs.Image.{Image, IsImage}
 use Rattle.folder_spec.specs.Moments.{Went}
-use Rattle.folder_spec.specs.Path.{Path}
+use Rattle.folder_spec.specs.Apart.{AreApart, AreSeparate}
+use Rattle.folder_spec.specs.Path.{Path, below}
 use Rattle.folder_spec.specs.Region.{IsAsBefore, apart_from_both}
 use Rattle.folder_spec.specs.Seen.{IfSeen, IsSeen}
 use Rattle.folder_spec.specs.State.{State}
@@ -55,8 +56,9 @@ use Rattle.command_answers.specs.declared.answer.Answer.TheVariants.{OutOfMemory
 use Rattle.command_words.specs.declared.commands.Moving.{Moving}
 use Rattle.command_words.specs.declared.commands.Passes.{Passes}
 use Rattle.command_words.specs.declared.commands.Resuming.{Resuming}
+use Rattle.command_beginning.proofs.Beginnings.{no_overlap}
 use Rattle.command_opening.proofs.Overlaps.{none_drawn, refuses_overlap}
-use Rattle.command_opening.proofs.Printings.{IsPrinted, nothing_printed, printed, printed_is_own}
+use Rattle.command_opening.proofs.Printings.{IsPrinted, is_another, nothing_printed, printed, printed_is_own}
 use Rattle.command_opening.proofs.Refusals.{pass_gives, pass_taken, pass_then, unless_then}
 
 -- ---- nothing is lost
@@ -209,6 +211,9 @@ answers_printed IsRoot told answer done is_printed outcome is = subst (AnswersBy
 
 -- ---- `migrate`
 
+apart_by : (p q : Path) → overlap p q ≡ false → AreApart p q
+apart_by p q is = let none : (below p q ≡ None) × (below q p ≡ None) = no_overlap (below p q) (below q p) is in record { one = none.0; other = none.1 }
+
 module _ (moving : Moving) where
   abbrev pick : Bool → Bool → Bool → Option Pair
   pick one two three =
@@ -234,6 +239,9 @@ module _ (moving : Moving) where
   pub no_two : overlap moving.source moving.target ≡ false → overlap moving.source moving.work ≡ false → overlap moving.target moving.work ≡ false → first_overlap moving ≡ None
   no_two = by_last false
 
+  pub separate : overlap moving.source moving.target ≡ false → overlap moving.source moving.work ≡ false → overlap moving.target moving.work ≡ false → AreSeparate moving.source moving.target moving.work
+  separate one two three = record { vaults = apart_by moving.source moving.target one; source = apart_by moving.source moving.work two; target = apart_by moving.target moving.work three }
+
   pub two_refused : (two : Pair) (answer : Answer) (w : World) → first_overlap moving ≡ Some two → (answer ≡ Overlap two.first two.second) ⊎ (answer ≡ OutOfMemory) → MigratesTree moving answer w w
   two_refused two answer w is answers = record {
     apart = subst (λ (o : Option Pair). MatchOption o (MigratesApart moving answer w.told w.told w.taken w.taken w.random w.random) (λ (p : Pair). RefusesOverlap p.first p.second answer w w)) (sym is)
@@ -250,11 +258,12 @@ module _ (moving : Moving) where
   }
 
   pub migrate_stopped : (answer : Answer) (told told' : Option Told) (taken : Option (List ℕ)) (stream stream' : Option ByteStream) → IsTrue (is_of_stop answer)
-      → IfSeen told (λ v. migrating.MayCome moving answer told told' stream stream' v)
+      → ((first second : Path) → answer ≢ Overlap first second) → IfSeen told (λ v. migrating.MayCome moving answer told told' stream stream' v)
       → ((g : Migration) → IfSeen told (λ v. IsAskedFor g moving v → KeepsAll g told told')) → MovesOnly moving.work moving.target told told'
       → ((g : Migration) → IfSeen told (λ v. IsAskedFor g moving v → CanBegin g v → Completes answer)) → MigratesApart moving answer told told' taken taken stream stream'
-  migrate_stopped answer told told' taken stream stream' own comes keeps moves completes = record {
+  migrate_stopped answer told told' taken stream stream' own apart comes keeps moves completes = record {
     own = or_left (is_of_stop answer) (is_of_end answer) own;
+    apart = apart;
     comes = comes;
     keeps = keeps;
     moves = moves;
@@ -268,6 +277,7 @@ module _ (moving : Moving) where
       → PrintsText (done_text done) answer taken taken' → IsPrinted answer → MigratesApart moving answer told told' taken taken' stream stream'
   migrate_printed done answer told told' taken taken' stream stream' has comes keeps moves prints is_printed = record {
     own = printed_is_own is_of_stop answer refl is_printed;
+    apart = λ first second. is_another (λ a. is_of_chance a || is_of_end a) answer (Overlap first second) (printed_is_own is_of_chance answer refl is_printed) refl;
     comes = λ v is. inr (comes_as moving.passes (migrating.IsCaused moving v) (migrating.IsWritten moving told told' stream stream' v) v (λ outcome. outcome ≡ Ok done)
         (AnswersMove moving.work (migrating.IsRootOf moving) answer) (answers_printed (migrating.IsRootOf moving) (λ fault root. of_move moving.work root fault) answer done is_printed) (comes v is));
     keeps = keeps;
@@ -278,7 +288,7 @@ module _ (moving : Moving) where
 
   migrates_nothing_apart : AreSafe → (told : Option Told) (taken : Option (List ℕ)) (stream : Option ByteStream) → MigratesApart moving OutOfMemory told told taken taken stream stream
   migrates_nothing_apart law told taken stream =
-      migrate_stopped OutOfMemory told told taken stream stream refl (λ v is. inl (unread_undrawn moving.passes OutOfMemory told told stream v refl (inr (inl refl)))) (λ g v is asked. keeps_same law g told told refl)
+      migrate_stopped OutOfMemory told told taken stream stream refl (λ first second is. cc is) (λ v is. inl (unread_undrawn moving.passes OutOfMemory told told stream v refl (inr (inl refl)))) (λ g v is asked. keeps_same law g told told refl)
       (moves_nothing moving.work moving.target told told refl) (λ g v is asked can. refl)
 
   pub migrates_nothing : AreSafe → (w : World) → MigratesTree moving OutOfMemory w w

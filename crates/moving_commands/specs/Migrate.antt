@@ -1,5 +1,5 @@
 -- `migrate`: moving the tree of one vault into another, which is empty, through a new work folder.
-use Rattle.std.specs.Prelude.{◌≡◌, ◌⊎◌, ℕ, List, if◌then◌else◌, Option, Some, None, IfErr, IsTrue, MatchOption}
+use Rattle.std.specs.Prelude.{◌≡◌, ◌≢◌, ◌⊎◌, ℕ, List, if◌then◌else◌, Option, Some, None, IfErr, IsTrue, MatchOption}
 use Rattle.std.specs.Io.KnownBytes.{Keeps}
 use Rattle.folder_spec.specs.Event.{Told}
 use Rattle.folder_spec.specs.Path.{Path}
@@ -27,6 +27,7 @@ use Rattle.command_opening.specs.Places.{overlap, RefusesOverlap}
 use Rattle.command_answers.specs.Printing.{PrintsDone}
 use Rattle.command_opening.specs.World.{World}
 use Rattle.command_answers.specs.declared.answer.Answer.{Answer}
+use Rattle.command_answers.specs.declared.answer.Answer.TheVariants.{Overlap}
 use Rattle.command_words.specs.declared.commands.Moving.{Moving}
 
 -- two folders that overlap
@@ -93,9 +94,10 @@ OwnFolders moving v =
 
 -- Of folders that don't overlap: whatever the answer is, nothing is lost; all but the work folder and the target stays as it was, nothing
 -- of the target is removed or replaced, and files come there staged. At 0 the tree is moved. Where no test can fail and no content is
--- damaged, it comes to that.
+-- damaged, it comes to that. It isn't answered that they overlap.
 pub record MigratesApart (moving : Moving) (answer : Answer) (told told' : Option Told) (taken taken' : Option (List ℕ)) (stream stream' : Option ByteStream) : Type 0 where
   pub own : IsTrue (is_of_migration answer)
+  pub apart : (first second : Path) → answer ≢ Overlap first second
   pub comes : IfSeen told (λ v. MayCome moving answer told told' stream stream' v)
   pub keeps : (g : Migration) → IfSeen told (λ v. IsAskedFor g moving v → KeepsAll g told told')
   pub moves : MovesOnly moving.work moving.target told told'

@@ -1,5 +1,7 @@
 //! `migrate`: moves the tree of one vault into another.
-ghost use Rattle.std.specs.Prelude.{◌≡◌, ℕ, Bool, List, Option, Ok, Err, IfErr, IfOk, IsTrue};
+ghost use Rattle.std.specs.Prelude.{◌≡◌, ◌≢◌, ℕ, Bool, List, Option, Ok, Err, IfErr, IfOk, IsTrue};
+ghost use Rattle.folder_spec.specs.Apart.{AreSeparate};
+ghost use Rattle.folder_spec.specs.Path.{Path};
 ghost use Rattle.folder_spec.specs.Seen.{IfSeen};
 ghost use Rattle.migrate_core.specs.Completing.{CanBegin};
 ghost use Rattle.migrate_core.specs.Moving.{MovesOnly};
@@ -61,6 +63,7 @@ fn migrate_apart<F: Folder, R: Randoms, O: Sink>(
     out: &mut O,
 ) -> Answer
     requires written { AreWritten moving.now }
+    requires separate { AreSeparate moving.now.source moving.now.target moving.now.work }
     ensures apart { MigratesApart moving.now result (F.told folder.old) (F.told folder.new) (O.taken out.old) (O.taken out.new) (R.left random.old) (R.left random.new) }
     ensures folder_fault { result ≡ Answer.FolderFault → CountRose (F.faults folder.old) (F.faults folder.new) }
     ensures random_fault { result ≡ Answer.RandomFault → CountRose (R.faults random.old) (R.faults random.new) }
@@ -80,6 +83,7 @@ fn begin<F: Folder, R: Randoms>(
     random: &mut R,
 ) -> Result<Done, Answer>
     requires written { AreWritten moving.now }
+    requires separate { AreSeparate moving.now.source moving.now.target moving.now.work }
     ensures migrated { IfOk result (λ done. HasMigrated moving.now done (F.told folder.old) (F.told folder.new)) }
     ensures came { IfOk result (λ done. IfSeen (F.told folder.old) (λ v. ComesTo moving.now (λ outcome. outcome ≡ Ok done) (F.told folder.old) (F.told folder.new) (R.left random.old) (R.left random.new) v)) }
     ensures stopped { IfErr result (λ answer. IfSeen (F.told folder.old) (λ v. MayCome moving.now answer (F.told folder.old) (F.told folder.new) (R.left random.old) (R.left random.new) v)) }
@@ -87,6 +91,7 @@ fn begin<F: Folder, R: Randoms>(
     ensures moves { MovesOnly moving.now.work moving.now.target (F.told folder.old) (F.told folder.new) }
     ensures completes { IfErr result (λ answer. (g : Migration) → IfSeen (F.told folder.old) (λ v. IsAskedFor g moving.now v → CanBegin g v → Completes answer)) }
     ensures own { IfErr result (λ answer. IsTrue (is_of_stop answer)) }
+    ensures apart { (first second : Path) → result ≢ Err (Answer.Overlap first second) }
     ensures failed { result ≡ Err Answer.FolderFault → CountRose (F.faults folder.old) (F.faults folder.new) }
     ensures drawn { result ≡ Err Answer.RandomFault → CountRose (R.faults random.old) (R.faults random.new) }
 {

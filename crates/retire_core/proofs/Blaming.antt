@@ -10,7 +10,7 @@ use Rattle.folder_spec.specs.Path.{Path}
 use Rattle.folder_spec.specs.View.{kind_found}
 use Rattle.folder_staging.specs.declared.removal.RemovalFault.{RemovalFault}
 use Rattle.folder_staging.specs.declared.removal.RemovalFault.TheVariants as removal
-use Rattle.migration_sides.specs.Faults.{IsBlamed, IsStepFault}
+use Rattle.migration_sides.specs.Faults.{IsApartFault, IsBlamed, IsStepFault}
 use Rattle.migration_sides.specs.declared.fault.StepFault.{StepFault}
 use Rattle.migration_sides.specs.declared.fault.StepFault.TheVariants as step
 use Rattle.port_model.specs.Counts.{CountRose}
@@ -52,11 +52,18 @@ blamed_removal before mid after removal.NoMemory result is le failed = record { 
 
 -- ---- a step that both commands share
 
+pub blamed_apart : {F : Type 0} (fault : StepFault) → IsApartFault fault → Blamed IsLaterFault F (of_step fault)
+blamed_apart (step.Overlap one two) own = record { own = tt; failed = λ is. cc is }
+blamed_apart (step.Load side why) own = absurd own
+blamed_apart (step.Walk why) own = absurd own
+blamed_apart step.Failed own = absurd own
+blamed_apart step.NoMemory own = record { own = tt; failed = λ is. cc is }
+
 pub blamed_step : (folder : Type 0) (fault : StepFault) → IsBlamed folder fault → Blamed IsLaterFault folder (of_step fault)
 blamed_step folder fault b = record { own = step_own fault b.own; failed = λ is. b.failed (step_failed fault is) }
   where
     step_own : (fault : StepFault) → IsStepFault fault → IsLaterFault (of_step fault)
-    step_own (step.Overlap one two) is = tt
+    step_own (step.Overlap one two) is = absurd is
     step_own (step.Load side load.Failed) is = absurd is
     step_own (step.Load side load.NoMemory) is = absurd is
     step_own (step.Load side (load.Missing at)) is = tt

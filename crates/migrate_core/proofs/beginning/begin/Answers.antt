@@ -1,4 +1,5 @@
-use Rattle.std.proofs.Common.{refl, inl, Ok, IfErr}
+use Rattle.std.proofs.Common.{arith, refl, inl, Ok, IfErr, IsTrue}
+use Rattle.folder_model.proofs.Counting.{never_falls}
 use Rattle.folder_spec.specs.Region.{apart_from_both}
 use Rattle.migrate_core.proofs.Movings.{moves_nowhere, moves_on, settle_moves}
 use Rattle.migrate_core.proofs.Settled.{settle_goes}
@@ -7,9 +8,9 @@ use Rattle.migrate_core.specs.Moved.{MovesTree}
 use Rattle.migration_sides.proofs.Told.{apart_passes, apart_refused, folder_unless}
 use Rattle.migration_sides.specs.Causes.{TestsApart}
 use Rattle.migration_sides.specs.Tests.{Then}
-use Rattle.migrate_core.proofs.Blaming.{apart_begins}
+use Rattle.migrate_core.proofs.Blaming.{apart_begins, apart_tells, blamed_begins, blamed_may, folder_tells}
 use Rattle.migrate_core.specs.Causes.{Begins, BeginsApart, Unless, PassesBegin, IsOfPlacing}
-use Rattle.migrate_core.specs.Faults.{is_of_begin, of_folder, of_step}
+use Rattle.migrate_core.specs.Faults.{is_of_apart, of_folder, of_step}
 use Rattle.migrate_core.specs.declared.placing.Done.{Done}
 use Rattle.migrate_core.proofs.Writings.{settle_writes}
 use Rattle.migrate_core.proofs.WrittenTrees.{refused_written, may_write_after, nothing_written}
@@ -129,7 +130,7 @@ returns-in_err-test_apart-clause-completes g c m v seen asked opened can =
     let result = c.from_residual.result in
     begin_completes m v c.args.names c.args.source.now c.args.target.now c.args.work.now pass pass' result asked
     (c.what_can_begin_is_done.ensures m pass pass' v result opened can
-    (fault_as _ result c.from_residual.ensures.1 (apart_begins {F = ⊥} {R = ⊥} c.in_err-test_apart.field-0.0 c.in_err-test_apart.ensures.blamed).own))
+    (fault_as _ result c.from_residual.ensures.1 (apart_begins {F = ⊥} {R = ⊥} c.in_err-test_apart.field-0.0 c.in_err-test_apart.ensures.own).own))
     (returns-in_err-test_apart-clause-cause g c v seen)
 
 pub returns-in_err-settle-clause-completes : goal.returns-in_err-settle-clause-completes
@@ -141,11 +142,31 @@ returns-clause-completes g c m v seen asked opened can =
     let pass = c.args.source_pass.now in
     let pass' = c.args.target_pass.now in
     begin_completes m v c.args.names c.args.source.now c.args.target.now c.args.work.now pass pass' c.begin_settled.result asked
-    (c.what_can_begin_is_done.ensures m pass pass' v c.begin_settled.result opened can (own_faults is_of_begin c.begin_settled.result _ _ c.begin_settled.ensures.blamed)) (returns-clause-cause g c v seen)
+    (c.what_can_begin_is_done.ensures m pass pass' v c.begin_settled.result opened can (own_faults is_of_apart c.begin_settled.result _ _ c.begin_settled.ensures.blamed)) (returns-clause-cause g c v seen)
 
 pub returns-in_err-test_apart-clause-blamed : goal.returns-in_err-test_apart-clause-blamed
 returns-in_err-test_apart-clause-blamed g c =
-    fault_as _ c.from_residual.result c.from_residual.ensures.1 (apart_begins c.in_err-test_apart.field-0.0 c.in_err-test_apart.ensures.blamed)
+    fault_as _ c.from_residual.result c.from_residual.ensures.1 (apart_begins c.in_err-test_apart.field-0.0 c.in_err-test_apart.ensures.own)
+
+pub returns-clause-blamed : goal.returns-clause-blamed
+returns-clause-blamed g c =
+    let n0 = g.F.Folder.faults c.args.folder.now in
+    let n1 = g.F.Folder.faults c.settle.new.self in
+    let r = g.R.Randoms.faults c.args.random.now in
+    blamed_begins n0 n1 (g.F.Folder.faults c.begin_settled.new.folder) r r (g.R.Randoms.faults c.begin_settled.new.random) c.begin_settled.result
+    (never_falls {T = Unit {0}} (g.F.Folder.told c.args.folder.now) n0 n1 (Ok c.in_ok-settle.field-0) c.in_ok-settle.ensures.counts) (omega arith) c.begin_settled.ensures.blamed
+
+pub returns-in_err-test_apart-clause-apart : goal.returns-in_err-test_apart-clause-apart
+returns-in_err-test_apart-clause-apart g c separate =
+    fault_as (λ fault. IsTrue (is_of_apart fault)) c.from_residual.result c.from_residual.ensures.1
+    (apart_tells c.args.source.now c.args.target.now c.args.work.now separate c.in_err-test_apart.field-0.0 c.in_err-test_apart.ensures.own c.in_err-test_apart.ensures.cause)
+
+pub returns-in_err-settle-clause-apart : goal.returns-in_err-settle-clause-apart
+returns-in_err-settle-clause-apart g c separate =
+    fault_as (λ fault. IsTrue (is_of_apart fault)) c.from_residual-in_err-settle.result c.from_residual-in_err-settle.ensures.1 (folder_tells c.in_err-settle.field-0.0)
+
+pub returns-clause-apart : goal.returns-clause-apart
+returns-clause-apart g c separate = blamed_may is_of_apart _ _ c.begin_settled.result c.begin_settled.ensures.blamed
 
 pub returns-in_err-test_apart-clause-too_long : goal.returns-in_err-test_apart-clause-too_long
 returns-in_err-test_apart-clause-too_long g c =

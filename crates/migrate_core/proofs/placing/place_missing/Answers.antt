@@ -17,7 +17,7 @@ use Rattle.migrate_core.proofs.Entered.{next_enters}
 use Rattle.migrate_core.specs.Copying.{Enters, HasCopied}
 use Rattle.migrate_core.proofs.Sharing.{next_lacks, none_filled, one_filled, shares_before, stops_more}
 use Rattle.migrate_core.specs.Sharing.{IsFilled, Lacks, SharesFrom}
-use Rattle.migrate_core.specs.Faults.{is_of_begin}
+use Rattle.migrate_core.specs.Faults.{is_of_apart}
 use Rattle.vault_write.specs.Calls.{IsKept}
 use Rattle.migrate_core.proofs.placing.place_missing.Goals as goal
 use Rattle.migrate_core.proofs.placing.place_missing.Goals.{then-branch, else-branch}
@@ -90,7 +90,7 @@ returns-in_err-place_missing_one-clause-random g c = omega (arith, c.loop-item.i
 pub returns-in_err-place_missing_one-clause-blamed : goal.returns-in_err-place_missing_one-clause-blamed
 returns-in_err-place_missing_one-clause-blamed g c =
     fault_as _ c.from_residual.result c.from_residual.ensures.1
-    (blamed_since is_of_begin is_of_begin (λ why begins. begins) _ _ _ _ _ _ c.loop-item.invariant.grows c.loop-item.invariant.random c.in_err-place_missing_one.field-0.0 c.in_err-place_missing_one.ensures.blamed)
+    (blamed_since is_of_apart is_of_apart (λ why begins. begins) _ _ _ _ _ _ c.loop-item.invariant.grows c.loop-item.invariant.random c.in_err-place_missing_one.field-0.0 c.in_err-place_missing_one.ensures.blamed)
 
 pub returns-clause-grows : goal.returns-clause-grows
 returns-clause-grows g c = c.loop-item.invariant.grows

@@ -233,4 +233,4 @@ returns-clause-too_long g c v seen =
 
 pub returns-in_err-test_apart-clause-blamed : goal.returns-in_err-test_apart-clause-blamed
 returns-in_err-test_apart-clause-blamed g c =
-    fault_as _ c.from_residual-in_err-test_apart.result c.from_residual-in_err-test_apart.ensures.1 (apart_resumes c.in_err-test_apart.field-0.0 c.in_err-test_apart.ensures.blamed)
+    fault_as _ c.from_residual-in_err-test_apart.result c.from_residual-in_err-test_apart.ensures.1 (apart_resumes c.in_err-test_apart.field-0.0 c.in_err-test_apart.ensures.own)

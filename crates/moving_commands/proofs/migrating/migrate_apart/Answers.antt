@@ -1,3 +1,4 @@
+use Rattle.std.proofs.Common.{Err, ap}
 use Rattle.moving_commands.proofs.Migrations.{migrate_printed, migrate_stopped}
 use Rattle.moving_commands.proofs.migrating.migrate_apart.Goals as goal
 
@@ -9,4 +10,4 @@ returns-in-Ok-clause-apart g c =
 pub returns-in-Err-clause-apart : goal.returns-in-Err-clause-apart
 returns-in-Err-clause-apart g c =
     migrate_stopped c.args.moving.now c.in-Err.answer (g.F.Folder.told c.args.folder.now) (g.F.Folder.told c.begin.new.folder) (g.O.Sink.taken c.args.out.now)
-    (g.R.Randoms.left c.args.random.now) (g.R.Randoms.left c.begin.new.random) c.in-Err.ensures.own c.in-Err.ensures.stopped c.in-Err.ensures.keeps c.in-Err.ensures.moves c.in-Err.ensures.completes
+    (g.R.Randoms.left c.args.random.now) (g.R.Randoms.left c.begin.new.random) c.in-Err.ensures.own (λ first second is. c.in-Err.ensures.apart first second (ap Err is)) c.in-Err.ensures.stopped c.in-Err.ensures.keeps c.in-Err.ensures.moves c.in-Err.ensures.completes

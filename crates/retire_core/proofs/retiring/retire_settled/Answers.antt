@@ -4,7 +4,7 @@ use Rattle.move_journal.specs.declared.journal.Journal.{Journal}
 use Rattle.move_journal.specs.Reading.{StandsIn}
 use Rattle.move_journal.proofs.Standing.{not_missing}
 use Rattle.port_model.specs.Counts.{CountRose}
-use Rattle.retire_core.proofs.Blaming.{blamed_later, blamed_step, if_err_both, later_own}
+use Rattle.retire_core.proofs.Blaming.{blamed_apart, blamed_later, if_err_both, later_own}
 use Rattle.retire_core.specs.Faults.{Blamed, IsLaterFault, IsOfRemoval, IsRetireFault, of_step}
 use Rattle.retire_core.proofs.Courses.{in_order, removes_same, retired_by, touches_same}
 use Rattle.retire_core.proofs.Going.{rest_same}
@@ -103,8 +103,7 @@ returns-clause-retired g c =
 pub returns-in_err-test_apart-clause-blamed : goal.returns-in_err-test_apart-clause-blamed
 returns-in_err-test_apart-clause-blamed g c =
     let fault = c.in_err-test_apart.field-0.0 in
-    let blamed = c.in_err-test_apart.ensures.blamed in
-    let later = blamed_step ⊥ fault blamed in
+    let later = blamed_apart {F = ⊥} fault c.in_err-test_apart.ensures.own in
     fault_as _ c.from_residual-in_err-test_apart.result c.from_residual-in_err-test_apart.ensures.1 (record { own = later_own (of_step fault) later.own; failed = λ is. absurd (later.failed is) })
 
 pub returns-clause-blamed : goal.returns-clause-blamed

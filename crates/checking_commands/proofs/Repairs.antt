@@ -1,10 +1,10 @@
 -- What `repair` did, from what its parts say.
-use Rattle.std.proofs.Common.{◌≡◌, ℕ, true, false, List, [], Option, Some, None, inl, inr, refl, sym, ◌∙◌, subst}
-use Rattle.std.specs.Prelude.{◌⊎◌, IsTrue, is_some}
-use Rattle.std.proofs.lemmas.Bool.{or_left, or_parts}
+use Rattle.std.proofs.Common.{◌≡◌, ℕ, true, false, List, [], Option, inl, inr, refl, sym, ◌∙◌, subst}
+use Rattle.std.specs.Prelude.{◌⊎◌, IsTrue}
+use Rattle.std.proofs.lemmas.Bool.{or_left}
 use Rattle.std.specs.Io.KnownBytes.{Keeps}
 use Rattle.std.proofs.KnownBytes.{Keeps-refl}
-use Rattle.folder_spec.specs.Path.{Path, below, parent}
+use Rattle.folder_spec.specs.Path.{Path, parent}
 use Rattle.folder_spec.specs.Event.{Told, FromTo}
 use Rattle.folder_spec.specs.Image.{Image, IsImage}
 use Rattle.folder_spec.specs.Seen.{IfSeen, ShowsFree, seen, under}
@@ -30,7 +30,7 @@ use Rattle.checking_commands.specs.Repair.{IsOfMoving, TooMany, TooDeep, OfRepai
 use Rattle.command_opening.specs.Tests.{is_of_moving}
 use Rattle.command_answers.specs.Printing.{PrintsText}
 use Rattle.command_opening.proofs.Printings.{IsPrinted, nothing_printed, printed, printed_is_own}
-use Rattle.command_opening.proofs.Overlaps.{by_test, refuses_overlap}
+use Rattle.command_opening.proofs.Overlaps.{apart_by, by_test, refuses_overlap}
 use Rattle.command_opening.specs.Shown.{IsCutShort, is_of_end, refused}
 use Rattle.command_opening.specs.World.{World}
 use Rattle.command_answers.specs.declared.answer.Answer.{Answer}
@@ -39,15 +39,6 @@ use Rattle.command_words.specs.declared.commands.Repairing.{Repairing}
 use Rattle.command_opening.proofs.Refusals.{opened_gives, unless_opened}
 
 -- ---- the tests
-
-none_of : {X : Type 0} (o : Option X) → is_some o ≡ false → o ≡ None
-none_of None is = refl
-none_of (Some x) is = cc
-
-pub apart_by : (one other : Path) → overlap one other ≡ false → AreApart one other
-apart_by one other is =
-    let parts = or_parts (is_some (below one other)) (is_some (below other one)) is in
-    record { one = none_of (below one other) parts.0; other = none_of (below other one) parts.1 }
 
 missing_then : (at : Path) (there : Found) (answer : Answer) (P Q : Type 0) → (P → Q) → OfMissing at there answer P → OfMissing at there answer Q
 missing_then at NoEntry answer P Q f x = f x

@@ -1,7 +1,8 @@
 -- What a command did before it came to the making, and why it didn't come to it.
 use Rattle.std.proofs.Common.{◌≡◌, ◌⊎◌, ◌&&◌, not, Bool, true, false, [], ◌∷◌, append_assoc, codes, Option, Some, None, Result, Ok, Err, inl, inr, refl, sym, ap, ◌∙◌, subst, arith, IsTrue}
-use Rattle.std.specs.Prelude.{is_some, is_none, ◌||◌}
+use Rattle.std.specs.Prelude.{is_none}
 use Rattle.folder_spec.specs.declared.FolderFault.{FolderFault}
+use Rattle.folder_spec.specs.Apart.{AreApart}
 use Rattle.folder_spec.specs.Path.{Path, below}
 use Rattle.folder_spec.specs.State.{Table, State, present, IsTableOf, IsSound}
 use Rattle.folder_spec.specs.Event.{Settle, Told, Steps, Changes, FromTo, changed}
@@ -22,6 +23,7 @@ use Rattle.work_folder.specs.Looking.{Gives}
 use Rattle.work_folder.specs.declared.fault.WorkFault.{WorkFault}
 use Rattle.work_folder.specs.declared.fault.WorkFault.TheVariants.{NoParent, WrongKind, Foreign, Begun, Depth, Failed, NoMemory}
 use Rattle.command_beginning.specs.Beginning.{IsBeginning, ChangesWork}
+use Rattle.command_opening.proofs.Overlaps.{apart_by}
 use Rattle.command_opening.specs.Places.{overlap}
 use Rattle.command_beginning.specs.Faults.{of_work}
 use Rattle.command_beginning.specs.Refusing.{RefusesWork}
@@ -126,11 +128,6 @@ pub work_refused : (v : View) (at : Path) (fault : WorkFault) (answer : Answer) 
 work_refused v at fault answer gives (inl memory) = inr (inl memory)
 work_refused v at fault answer gives (inr is) = refused_by v at fault answer gives is
 
-pub no_overlap : (x y : Option Path) → (is_some x || is_some y) ≡ false → (x ≡ None) × (y ≡ None)
-no_overlap None None is = (refl, refl)
-no_overlap None (Some y) is = cc
-no_overlap (Some x) y is = cc
-
 abbrev pub Outside : Type 0
 Outside = (stage root : Path) → below stage root ≡ None → below root stage ≡ None → IsOutside stage (at_or_below root)
 
@@ -139,8 +136,8 @@ Alike = (root : Path) (v w : View) → AgreeIn (at_or_below root) v w → under 
 
 pub same_under : Outside → Alike → (root work : Path) → overlap root work ≡ false → (v w : View) → AgreeIn (apart_from work) w v → under root w ≡ under root v
 same_under outside alike root work apart v w agree =
-    let none : (below root work ≡ None) × (below work root ≡ None) = no_overlap (below root work) (below work root) apart in
-    alike root w v (λ q inside. agree q (outside work root none.1 none.0 q inside))
+    let none : AreApart root work = apart_by root work apart in
+    alike root w v (λ q inside. agree q (outside work root none.other none.one q inside))
 
 -- ---- regions
 

@@ -1,12 +1,13 @@
 -- Folders that overlap.
 use Rattle.std.proofs.Common.{◌≡◌, Bool, true, false, [], Option, Some, None, refl}
-use Rattle.std.specs.Prelude.{◌⊎◌}
+use Rattle.std.specs.Prelude.{◌⊎◌, ◌||◌, is_some}
 use Rattle.std.proofs.KnownBytes.{Keeps-refl}
 use Rattle.folder_spec.specs.Event.{Told}
-use Rattle.folder_spec.specs.Path.{Path}
+use Rattle.folder_spec.specs.Apart.{AreApart}
+use Rattle.folder_spec.specs.Path.{Path, below}
 use Rattle.port_model.specs.Draws.{ByteStream, Draws}
 use Rattle.vault_spec.specs.Vault.{Either}
-use Rattle.command_opening.specs.Places.{RefusesOverlap}
+use Rattle.command_opening.specs.Places.{RefusesOverlap, overlap}
 use Rattle.command_opening.specs.World.{World}
 use Rattle.command_answers.specs.declared.answer.Answer.{Answer}
 use Rattle.command_answers.specs.declared.answer.Answer.TheVariants.{OutOfMemory, Overlap}
@@ -15,6 +16,15 @@ use Rattle.command_answers.specs.declared.answer.Answer.TheVariants.{OutOfMemory
 pub by_test : (b : Bool) (P Q : Type 0) → (b ≡ true → P) → (b ≡ false → Q) → Either b P Q
 by_test true P Q p q = p refl
 by_test false P Q p q = q refl
+
+none_of_both : (x y : Option Path) → (is_some x || is_some y) ≡ false → (x ≡ None) × (y ≡ None)
+none_of_both None None is = (refl, refl)
+none_of_both None (Some y) is = cc
+none_of_both (Some x) y is = cc
+
+-- folders that don't overlap are apart
+pub apart_by : (one other : Path) → overlap one other ≡ false → AreApart one other
+apart_by one other is = let none : (below one other ≡ None) × (below other one ≡ None) = none_of_both (below one other) (below other one) is in record { one = none.0; other = none.1 }
 
 pub none_drawn : (stream : Option ByteStream) → Draws stream stream []
 none_drawn None = tt

@@ -8,8 +8,8 @@ use Rattle.content_writing.specs.declared.fault.PutFault.TheVariants as puts
 use Rattle.folder_spec.specs.Event.{Told}
 use Rattle.folder_spec.specs.Image.{Image, IsImage}
 use Rattle.folder_spec.specs.Moments.{Went}
-use Rattle.folder_spec.specs.Apart.{AreApart, AreSeparate}
-use Rattle.folder_spec.specs.Path.{Path, below}
+use Rattle.folder_spec.specs.Apart.{AreSeparate}
+use Rattle.folder_spec.specs.Path.{Path}
 use Rattle.folder_spec.specs.Region.{IsAsBefore, apart_from_both}
 use Rattle.folder_spec.specs.Seen.{IfSeen, IsSeen}
 use Rattle.folder_spec.specs.State.{State}
@@ -56,8 +56,7 @@ use Rattle.command_answers.specs.declared.answer.Answer.TheVariants.{OutOfMemory
 use Rattle.command_words.specs.declared.commands.Moving.{Moving}
 use Rattle.command_words.specs.declared.commands.Passes.{Passes}
 use Rattle.command_words.specs.declared.commands.Resuming.{Resuming}
-use Rattle.command_beginning.proofs.Beginnings.{no_overlap}
-use Rattle.command_opening.proofs.Overlaps.{none_drawn, refuses_overlap}
+use Rattle.command_opening.proofs.Overlaps.{apart_by, none_drawn, refuses_overlap}
 use Rattle.command_opening.proofs.Printings.{IsPrinted, is_another, nothing_printed, printed, printed_is_own}
 use Rattle.command_opening.proofs.Refusals.{pass_gives, pass_taken, pass_then, unless_then}
 
@@ -210,9 +209,6 @@ pub answers_printed : {D F : Type 0} (IsRoot : F → Path → Type 0) (told : F 
 answers_printed IsRoot told answer done is_printed outcome is = subst (AnswersBy IsRoot told answer) (sym is) is_printed
 
 -- ---- `migrate`
-
-apart_by : (p q : Path) → overlap p q ≡ false → AreApart p q
-apart_by p q is = let none : (below p q ≡ None) × (below q p ≡ None) = no_overlap (below p q) (below q p) is in record { one = none.0; other = none.1 }
 
 module _ (moving : Moving) where
   abbrev pick : Bool → Bool → Bool → Option Pair

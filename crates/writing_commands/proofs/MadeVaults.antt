@@ -1,12 +1,13 @@
 -- A new vault is made after the work folder was made ready.
-use Rattle.std.proofs.Common.{◌≡◌, ◌⊎◌, ℕ, true, false, List, [], ◌∷◌, Option, Some, None, Result, Ok, Err, OnOk, inl, inr, refl, sym, ap, subst, arith, IsTrue}
+use Rattle.std.proofs.Common.{◌≡◌, ◌⊎◌, ℕ, true, false, List, [], ◌∷◌, Option, Some, Result, Ok, Err, OnOk, inl, inr, refl, sym, ap, subst, arith, IsTrue}
 use Rattle.std.specs.Prelude.{is_none}
 use Rattle.content_writing.specs.declared.fault.PutFault.{PutFault}
 use Rattle.std.specs.Io.KnownBytes.{Keeps}
 use Rattle.std.proofs.KnownBytes.{Keeps-refl}
 use Rattle.cryptomator_conf.specs.declared.conf.Combo.{Combo}
 use Rattle.cryptomator_conf.specs.declared.conf.Combo.TheVariants.{SivGcm, SivCtrMac}
-use Rattle.folder_spec.specs.Path.{Part, Path, below, parent}
+use Rattle.folder_spec.specs.Apart.{AreApart}
+use Rattle.folder_spec.specs.Path.{Part, Path, parent}
 use Rattle.folder_spec.specs.State.{State, IsSound}
 use Rattle.folder_spec.specs.Edit.{Edit, HasPublishedIn, HasSettledIn}
 use Rattle.folder_spec.specs.Event.{Event, Told, FromTo}
@@ -25,9 +26,9 @@ use Rattle.vault_spec.specs.Vault.{Vault}
 use Rattle.vault_write.specs.Founding.{Founds, FoundsCm, IsFounding, IsNewVault, founding, new_go, new_cm, texts, vault_edit}
 use Rattle.content_writing.specs.Making.{StagesOrPlaces, is_apart, is_unstaged}
 use Rattle.work_folder.specs.Entering.{EntersAs}
-use Rattle.command_beginning.proofs.Beginnings.{Begins, apart_of_both, apart_of_unstaged, as_before_in, as_before_then, begun_then, no_overlap, seen_after, unstaged}
+use Rattle.command_beginning.proofs.Beginnings.{Begins, apart_of_both, apart_of_unstaged, as_before_in, as_before_then, begun_then, seen_after, unstaged}
 use Rattle.command_beginning.proofs.Endings.{ended_before, ends_before, made_beside, makes_nothing}
-use Rattle.command_opening.proofs.Overlaps.{none_drawn}
+use Rattle.command_opening.proofs.Overlaps.{apart_by, none_drawn}
 use Rattle.command_opening.proofs.Refusals.{pass_gives, pass_then}
 use Rattle.command_beginning.proofs.Sites.{begins_nowhere, work_then}
 use Rattle.command_beginning.specs.Beginning.{IsBeginning, ChangesWork, MakesApart}
@@ -160,8 +161,8 @@ module _ (new : NewVault) (phrase : List ℕ) (answer : Answer) (t u w : Option 
 -- what is seen at the place, and above it, is what was seen there at first
 apart_parent : (work at : Path) → overlap at work ≡ false → IsTrue (apart_from work at) × IsTrue (apart_from work (parent at))
 apart_parent work at apart =
-    let none : (below at work ≡ None) × (below work at ≡ None) = no_overlap (below at work) (below work at) apart in
-    (ap is_none none.1, ap is_none (below-parent work at none.1))
+    let none : AreApart at work = apart_by at work apart in
+    (ap is_none none.other, ap is_none (below-parent work at none.other))
 
 pub place_caused : (new : NewVault) (v w : View) (answer : Answer) (phrase : List ℕ) → overlap new.vault new.work ≡ false → AgreeIn (apart_from new.work) w v → IsPhrase (v new.pass) phrase → EntersAs v new.work (Ok tt)
     → Unless answer (OfPlace new w answer) → Unless answer (OfNewPlace new v answer (IsOfFounding answer))

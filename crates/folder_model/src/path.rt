@@ -2,6 +2,7 @@
 ghost use Rattle.std.specs.Prelude.{◌≡◌, ◌+◌, ◌<◌, [], ◌∷◌, ◌++◌, map, length, string_bytes, Some, None, is_some, IfOk, OnOk, MatchOption, ◌≢◌, IsTrue, IsFalse};
 ghost use Rattle.std.specs.List.{list_all};
 ghost use Rattle.std.specs.Option.{option_map};
+ghost use Rattle.std.specs.Rc.{rc_str_bytes};
 ghost use Rattle.folder_spec.specs.Path.{Part, path_eq, below, parent, child};
 ghost use Rattle.folder_model.specs.Order.{path_cmp};
 ghost use Rattle.folder_model.specs.Text.{is_plain_byte, is_plain_part, is_path_text, parts_of, text_of};
@@ -9,21 +10,23 @@ ghost use Rattle.folder_model.specs.Text.{is_plain_byte, is_plain_part, is_path_
 use std::alloc::{AllocError, Global};
 use std::cmp::Ordering;
 use std::marker::Model;
+use std::rc::RcStr;
 
-/// A path in a folder: its parts, from the base down. The base has none.
+/// A path in a folder: its parts, from the base down. The base has none. A copy shares its parts.
 ///
 /// Contracts see it as the list of its parts, each a list of bytes.
 #[derive(Drop)]
 pub struct FPath {
-    parts: Vec<String>,
+    parts: Vec<RcStr>,
 }
 
 impl Model for FPath {
-    ghost use Rattle.std.specs.Prelude.{ℕ, List, map, string_bytes};
+    ghost use Rattle.std.specs.Prelude.{ℕ, List, map};
+    ghost use Rattle.std.specs.Rc.{rc_str_bytes};
 
     ghost Value = { List (List ℕ) };
 
-    ghost view = { λ p. map (λ s. string_bytes s) p.parts.items };
+    ghost view = { λ p. map (λ s. rc_str_bytes s) p.parts.items };
 }
 
 /// Why a text is no path.
@@ -68,48 +71,44 @@ fn is_text(text: &str) -> bool
     !text.is_empty() && text.len() <= 1024 && has_plain_bytes(text) && has_plain_parts(text)
 }
 
-/// Adds a copy of the text.
-pub(crate) fn push_text(
-    alloc: Global,
-    texts: &mut Vec<String>,
-    text: &str,
-) -> Result<(), AllocError>
-    ensures { OnOk result (map (λ s. string_bytes s) texts.new.items ≡ map (λ s. string_bytes s) texts.old.items ++ text.now ∷ []) }
+fn push_part(alloc: Global, parts: &mut Vec<RcStr>, part: &str) -> Result<(), AllocError>
+    ensures { OnOk result (map (λ s. rc_str_bytes s) parts.new.items ≡ map (λ s. rc_str_bytes s) parts.old.items ++ part.now ∷ []) }
 {
-    texts.push(String::from_str(alloc, text)?)?;
+    parts.push(RcStr::from_str(alloc, part)?)?;
     Ok(())
 }
 
-fn push_parts(alloc: Global, parts: &mut Vec<String>, more: &[String]) -> Result<(), AllocError>
-    ensures { OnOk result (map (λ s. string_bytes s) parts.new.items ≡ map (λ s. string_bytes s) parts.old.items ++ map (λ s. string_bytes s) more.now) }
+// Adds the parts, which are shared from then on.
+fn push_parts(parts: &mut Vec<RcStr>, more: &[RcStr]) -> Result<(), AllocError>
+    ensures { OnOk result (map (λ s. rc_str_bytes s) parts.new.items ≡ map (λ s. rc_str_bytes s) parts.old.items ++ map (λ s. rc_str_bytes s) more.now) }
 {
     for part in more {
-        push_text(alloc, parts, part.as_str())?;
+        parts.push(part.clone()?)?;
     }
     Ok(())
 }
 
 // A copy of the parts, with room for so many more.
-fn copy_parts(alloc: Global, parts: &[String], more: usize) -> Result<Vec<String>, AllocError>
-    ensures { IfOk result (λ v. map (λ s. string_bytes s) v.items ≡ map (λ s. string_bytes s) parts.now) }
+fn copy_parts(alloc: Global, parts: &[RcStr], more: usize) -> Result<Vec<RcStr>, AllocError>
+    ensures { IfOk result (λ v. map (λ s. rc_str_bytes s) v.items ≡ map (λ s. rc_str_bytes s) parts.now) }
 {
     let mut copied = Vec::with_capacity(alloc, parts.len().saturating_add(more))?;
-    push_parts(alloc, &mut copied, parts)?;
+    push_parts(&mut copied, parts)?;
     Ok(copied)
 }
 
-fn split_parts(alloc: Global, text: &str) -> Result<Vec<String>, AllocError>
-    ensures { IfOk result (λ v. map (λ s. string_bytes s) v.items ≡ parts_of text.now) }
+fn split_parts(alloc: Global, text: &str) -> Result<Vec<RcStr>, AllocError>
+    ensures { IfOk result (λ v. map (λ s. rc_str_bytes s) v.items ≡ parts_of text.now) }
 {
     let mut parts = Vec::new(alloc);
     for part in text.split('/') {
-        push_text(alloc, &mut parts, part)?;
+        push_part(alloc, &mut parts, part)?;
     }
     Ok(parts)
 }
 
-fn join_parts(alloc: Global, parts: &[String]) -> Result<String, AllocError>
-    ensures { IfOk result (λ text. string_bytes text ≡ text_of (map (λ s. string_bytes s) parts.now)) }
+fn join_parts(alloc: Global, parts: &[RcStr]) -> Result<String, AllocError>
+    ensures { IfOk result (λ text. string_bytes text ≡ text_of (map (λ s. rc_str_bytes s) parts.now)) }
 {
     let mut text = String::new(alloc);
     let Some((first, rest)) = parts.split_first() else {
@@ -124,8 +123,8 @@ fn join_parts(alloc: Global, parts: &[String]) -> Result<String, AllocError>
 }
 
 // What of the path comes after `front`, if it begins with it.
-fn rest_after<'a>(path: &'a [String], front: &[String]) -> Option<&'a [String]>
-    ensures { MatchOption result (below (map (λ s. string_bytes s) front.now) (map (λ s. string_bytes s) path.now) ≡ None) (λ rest. below (map (λ s. string_bytes s) front.now) (map (λ s. string_bytes s) path.now) ≡ Some (map (λ s. string_bytes s) rest.now)) }
+fn rest_after<'a>(path: &'a [RcStr], front: &[RcStr]) -> Option<&'a [RcStr]>
+    ensures { MatchOption result (below (map (λ s. rc_str_bytes s) front.now) (map (λ s. rc_str_bytes s) path.now) ≡ None) (λ rest. below (map (λ s. rc_str_bytes s) front.now) (map (λ s. rc_str_bytes s) path.now) ≡ Some (map (λ s. rc_str_bytes s) rest.now)) }
 {
     let depth = front.len();
     if depth > path.len() {
@@ -162,20 +161,20 @@ impl FPath {
     }
 
     /// The path with these parts.
-    pub fn from_parts(parts: Vec<String>) -> Self
-        ensures { result ≡ map (λ s. string_bytes s) parts.items }
+    pub fn from_parts(parts: Vec<RcStr>) -> Self
+        ensures { result ≡ map (λ s. rc_str_bytes s) parts.items }
     {
         FPath { parts }
     }
 
-    pub fn into_parts(self) -> Vec<String>
-        ensures { map (λ s. string_bytes s) result.items ≡ self }
+    pub fn into_parts(self) -> Vec<RcStr>
+        ensures { map (λ s. rc_str_bytes s) result.items ≡ self }
     {
         self.parts
     }
 
-    pub fn parts(&self) -> &[String]
-        ensures { map (λ s. string_bytes s) result.now ≡ self.now }
+    pub fn parts(&self) -> &[RcStr]
+        ensures { map (λ s. rc_str_bytes s) result.now ≡ self.now }
     {
         self.parts.as_slice()
     }
@@ -221,7 +220,7 @@ impl FPath {
     {
         let alloc = *self.parts.allocator();
         let mut parts = copy_parts(alloc, self.parts.as_slice(), 1)?;
-        push_text(alloc, &mut parts, part)?;
+        push_part(alloc, &mut parts, part)?;
         Ok(FPath { parts })
     }
 
@@ -241,17 +240,30 @@ impl FPath {
         Ok(FPath { parts })
     }
 
+    /// The path with the other one behind it.
+    pub fn joined(&self, rest: &FPath) -> Result<FPath, AllocError>
+        ensures { IfOk result (λ p. p ≡ self.now ++ rest.now) }
+    {
+        self.followed_by(rest.parts.as_slice())
+    }
+
+    // The path with these parts behind it.
+    fn followed_by(&self, rest: &[RcStr]) -> Result<FPath, AllocError>
+        ensures { IfOk result (λ p. p ≡ self.now ++ map (λ s. rc_str_bytes s) rest.now) }
+    {
+        let mut parts = copy_parts(*self.parts.allocator(), self.parts.as_slice(), rest.len())?;
+        push_parts(&mut parts, rest)?;
+        Ok(FPath { parts })
+    }
+
     /// If the path is `from` or lies below it: the path with `to` in the place of `from`.
     pub(crate) fn rebased(&self, from: &FPath, to: &FPath) -> Result<Option<FPath>, AllocError>
         ensures { IfOk result (λ r. r ≡ option_map (λ rest. to.now ++ rest) (below from.now self.now)) }
     {
-        let Some(rest) = rest_after(self.parts.as_slice(), from.parts.as_slice()) else {
-            return Ok(None);
-        };
-        let alloc = *self.parts.allocator();
-        let mut parts = copy_parts(alloc, to.parts.as_slice(), rest.len())?;
-        push_parts(alloc, &mut parts, rest)?;
-        Ok(Some(FPath { parts }))
+        match rest_after(self.parts.as_slice(), from.parts.as_slice()) {
+            Some(rest) => Ok(Some(to.followed_by(rest)?)),
+            None => Ok(None),
+        }
     }
 
     /// The name of the entry of `at` that the path is.

@@ -1,5 +1,5 @@
 //! The steps that made a name table, and what stands in it.
-ghost use Rattle.std.specs.Prelude.{◌≡◌, ◌≢◌, ◌<◌, map, IfOk, OnOk, MatchOption, Contains, string_bytes};
+ghost use Rattle.std.specs.Prelude.{◌≡◌, ◌≢◌, ◌<◌, [], ◌∷◌, ◌++◌, map, IfOk, OnOk, MatchOption, Contains, string_bytes};
 ghost use Rattle.folder_spec.specs.declared.Spot.TheVariants.{Nothing};
 ghost use Rattle.folder_spec.specs.Path.{Part, child};
 ghost use Rattle.folder_spec.specs.State.{Table};
@@ -7,7 +7,7 @@ ghost use Rattle.folder_model.specs.Tables.{names_of};
 ghost use Rattle.folder_model.specs.Steps.{step_table, replay, looked_in, target, KeepsEntries, GainsEntry};
 
 use crate::mem::table::NameTable;
-use crate::path::{FPath, push_text};
+use crate::path::FPath;
 use folder_spec::Spot;
 use std::alloc::{AllocError, Global};
 
@@ -87,6 +87,14 @@ fn place_before(step: &Step, at: FPath) -> Result<FPath, AllocError>
             None => Ok(at),
         },
     }
+}
+
+/// Adds a copy of the text.
+pub fn push_text(alloc: Global, texts: &mut Vec<String>, text: &str) -> Result<(), AllocError>
+    ensures { OnOk result (map (λ s. string_bytes s) texts.new.items ≡ map (λ s. string_bytes s) texts.old.items ++ text.now ∷ []) }
+{
+    texts.push(String::from_str(alloc, text)?)?;
+    Ok(())
 }
 
 // Adds the name of the entry that the step may have made.

@@ -5,8 +5,8 @@ ghost use Rattle.folder_spec.specs.State.{Table, IsAmong, put, moved};
 ghost use Rattle.folder_model.specs.Steps.{base_table, step_table, replay, tables_after};
 ghost use Rattle.folder_model.specs.Tables.{table_of, names_of, placed, HasParents, AddsName, AddsNames, MovesPath};
 
-use crate::mem::step::Step;
-use crate::path::{FPath, push_text};
+use crate::mem::step::{Step, push_text};
+use crate::path::FPath;
 use folder_spec::Spot;
 use std::alloc::{AllocError, Global};
 use std::collections::BTreeMap;

@@ -7,7 +7,7 @@ use Rattle.folder_model.proofs.path.split_parts.Goals as goal
 
 pub loop-part-preserved : goal.loop-part-preserved
 loop-part-preserved c =
-    c.in_ok-push_text.ensures ∙ ap (λ (parts : List (List ℕ)). parts ++ c.in-Some.part.now ∷ []) c.loop-part.invariant
+    c.in_ok-push_part.ensures ∙ ap (λ (parts : List (List ℕ)). parts ++ c.in-Some.part.now ∷ []) c.loop-part.invariant
     ∙ sym (map-append (λ x. x.now) c.loop-part.yielded (c.in-Some.part ∷ []))
 
 pub returns : goal.returns

@@ -5,6 +5,7 @@ use folder_model::{Entry, FPath, Kind};
 use std::alloc::{AllocError, Global};
 use std::collections::BTreeMap;
 use std::mem;
+use std::rc::RcStr;
 
 // What stands at each name in a directory, `None` where that isn't known any more. At all other names nothing stands.
 #[derive(Drop)]
@@ -105,7 +106,7 @@ impl Listings {
     }
 
     // Whether what stands in the directory with these parts is kept, which then is the one that was used last.
-    fn bring(&mut self, dir: &[String]) -> bool {
+    fn bring(&mut self, dir: &[RcStr]) -> bool {
         if !is_of(&self.last, dir) {
             if !is_of(&self.other, dir) {
                 return false;
@@ -116,7 +117,7 @@ impl Listings {
     }
 }
 
-fn is_of(listed: &Option<Listed>, dir: &[String]) -> bool {
+fn is_of(listed: &Option<Listed>, dir: &[RcStr]) -> bool {
     match listed {
         Some(listed) => are_same(listed.dir.parts(), dir),
         None => false,

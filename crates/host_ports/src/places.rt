@@ -2,6 +2,7 @@
 
 ghost use Rattle.std.specs.Prelude.{◌≡◌, ◌∷◌, ◌++◌, ◌==◌, ◌||◌, not, map, IfOk, IfSome, IsSome, IsTrue, OnOk, string_bytes};
 ghost use Rattle.std.specs.List.{list_all};
+ghost use Rattle.std.specs.Rc.{rc_str_bytes};
 ghost use Rattle.folder_model.specs.Text.{is_plain_part};
 ghost use Rattle.folder_spec.specs.Path.{parent};
 ghost use Rattle.host_ports.specs.Noted.{Sees, has};
@@ -15,6 +16,7 @@ use std::fs;
 use std::fs::Metadata;
 use std::io::ErrorKind;
 use std::os::unix::fs::MetadataExt;
+use std::rc::RcStr;
 
 // What was found at a path: its text on the machine and what stands there, or none where no directory stands above it.
 #[derive(Drop)]
@@ -63,8 +65,8 @@ fn is_entry_name(part: &str) -> bool
 }
 
 // Whether each part of a path does.
-fn are_entry_names(parts: &[String]) -> bool
-    ensures { result ≡ list_all (λ s. is_entry_name (string_bytes s)) parts.now }
+fn are_entry_names(parts: &[RcStr]) -> bool
+    ensures { result ≡ list_all (λ s. is_entry_name (rc_str_bytes s)) parts.now }
 {
     parts.iter().all(|part| is_entry_name(part.as_str()))
 }
@@ -112,8 +114,8 @@ fn is_directory(rt: &HostRuntime, text: &str) -> Result<bool, Cause> {
 }
 
 // The text of the path with these parts.
-pub fn text_of(alloc: Global, base: &str, parts: &[String]) -> Result<String, AllocError>
-    ensures { IfOk result (λ text. string_bytes text ≡ place_text base.now (map (λ s. string_bytes s) parts.now)) }
+pub fn text_of(alloc: Global, base: &str, parts: &[RcStr]) -> Result<String, AllocError>
+    ensures { IfOk result (λ text. string_bytes text ≡ place_text base.now (map (λ s. rc_str_bytes s) parts.now)) }
 {
     let mut text = String::with_capacity(alloc, room_of(base, parts))?;
     text.push_str(base)?;
@@ -122,7 +124,7 @@ pub fn text_of(alloc: Global, base: &str, parts: &[String]) -> Result<String, Al
 }
 
 // How many bytes the text of the path with these parts has.
-fn room_of(base: &str, parts: &[String]) -> usize {
+fn room_of(base: &str, parts: &[RcStr]) -> usize {
     let mut room = base.len();
     for part in parts {
         room = room.saturating_add(part.len()).saturating_add(1);
@@ -131,8 +133,8 @@ fn room_of(base: &str, parts: &[String]) -> usize {
 }
 
 // Adds each of these parts behind a slash.
-fn add_parts(text: &mut String, parts: &[String]) -> Result<(), AllocError>
-    ensures { OnOk result (string_bytes text.new ≡ place_text (string_bytes text.old) (map (λ s. string_bytes s) parts.now)) }
+fn add_parts(text: &mut String, parts: &[RcStr]) -> Result<(), AllocError>
+    ensures { OnOk result (string_bytes text.new ≡ place_text (string_bytes text.old) (map (λ s. rc_str_bytes s) parts.now)) }
 {
     for part in parts {
         add_part(text, part.as_str())?;
@@ -149,13 +151,13 @@ fn add_part(text: &mut String, part: &str) -> Result<(), AllocError>
 }
 
 // The first of these parts, at most so many.
-pub fn up_to(parts: &[String], most: usize) -> &[String] {
+pub fn up_to(parts: &[RcStr], most: usize) -> &[RcStr] {
     let count = most.min(parts.len());
     &parts[..count]
 }
 
 // Whether two lists of parts are one. Those that are compared mostly have one front, so the last parts are looked at first.
-pub fn are_same(one: &[String], other: &[String]) -> bool {
+pub fn are_same(one: &[RcStr], other: &[RcStr]) -> bool {
     one.len() == other.len() && one.last() == other.last() && one == other
 }
 

@@ -1,6 +1,7 @@
-use Rattle.std.proofs.Common.{◌≡◌, true, ◌∷◌, ◌++◌, [], ◌&&◌, map, sym, ap, ap₂, ◌∙◌, string_bytes, IsTrue}
+use Rattle.std.proofs.Common.{◌≡◌, true, ◌∷◌, ◌++◌, [], ◌&&◌, map, sym, ap, ap₂, ◌∙◌, IsTrue}
 use Rattle.std.proofs.lemmas.List.{map-append}
 use Rattle.std.proofs.lemmas.List.Folds.{list_all-append}
+use Rattle.std.specs.Rc.{rc_str_bytes}
 use Rattle.folder_spec.specs.Path.{Part, Path, parent}
 use Rattle.folder_spec.proofs.Paths.{parent-child}
 use Rattle.host_ports.specs.Places.{is_entry_name, names_entries}
@@ -13,6 +14,6 @@ named_whole at rest part whole last front =
 
 pub returns-then-is_entry_name : goal.returns-then-is_entry_name
 returns-then-is_entry_name c =
-    named_whole c.args.at.now (map (λ s. string_bytes s) c.in-Some.field-0-1.now) (string_bytes c.in-Some.name.now)
-    (sym c.parts.ensures ∙ ap (map (λ s. string_bytes s)) c.in-Some.ensures.cases.0 ∙ map-append (λ s. string_bytes s) c.in-Some.field-0-1.now (c.in-Some.name.now ∷ []))
+    named_whole c.args.at.now (map (λ s. rc_str_bytes s) c.in-Some.field-0-1.now) (rc_str_bytes c.in-Some.name.now)
+    (sym c.parts.ensures ∙ ap (map (λ s. rc_str_bytes s)) c.in-Some.ensures.cases.0 ∙ map-append (λ s. rc_str_bytes s) c.in-Some.field-0-1.now (c.in-Some.name.now ∷ []))
     (ap is_entry_name (sym c.as_str.ensures.value) ∙ sym c.is_entry_name.ensures ∙ c.if-is_entry_name.true)

@@ -12,7 +12,6 @@ ghost use Rattle.vault_read.specs.Opened.{FitsKey};
 ghost use Rattle.vault_read.specs.Stands.{standing_of, EntersFit};
 ghost use Rattle.vault_read.specs.Finding.{Refuses, IsPlace, IsDirPlace, reached_from};
 
-use crate::looking::joined;
 use crate::standing::{Directory, Standing, root_standing, standing_in};
 use crate::vault::Vault;
 use folder_model::{FPath, Folder};
@@ -61,7 +60,7 @@ pub fn find<F: Folder>(
     ensures failed { result ≡ Err FindFault.Failed → CountRose (F.faults folder.old) (F.faults folder.new) }
 {
     let here = standing_found(alloc, folder, vault, path)?;
-    place_of(alloc, vault.root(), path, &here)
+    place_of(vault.root(), path, &here)
 }
 
 /// The directory at a plain path, to be entered. It refuses as `find` does, and where a file is at the path, or a directory
@@ -80,7 +79,7 @@ pub fn enter<F: Folder>(
     ensures failed { result ≡ Err FindFault.Failed → CountRose (F.faults folder.old) (F.faults folder.new) }
 {
     let entered = enter_at(alloc, folder, vault, path)?;
-    Ok(dir_place_of(alloc, vault.root(), entered)?)
+    Ok(dir_place_of(vault.root(), entered)?)
 }
 
 // The directory at a plain path, to be entered. Its paths begin at the vault's root.
@@ -98,7 +97,7 @@ pub(crate) fn enter_at<F: Folder>(
     ensures failed { result ≡ Err FindFault.Failed → CountRose (F.faults folder.old) (F.faults folder.new) }
 {
     let here = standing_found(alloc, folder, vault, path)?;
-    enter_here(alloc, vault, path, here)
+    enter_here(vault, path, here)
 }
 
 // What stands at the path, where all before it is entered.
@@ -142,17 +141,12 @@ fn step<F: Folder>(
     ensures grows { F.faults folder.old ≤ F.faults folder.new }
     ensures failed { result ≡ Err FindFault.Failed → CountRose (F.faults folder.old) (F.faults folder.new) }
 {
-    let entered = enter_here(alloc, vault, front, here)?;
+    let entered = enter_here(vault, front, here)?;
     Ok(standing_in(alloc, folder, vault, &entered.dir, name)?)
 }
 
 // The directory that stands at the front of a path, or why it isn't entered.
-fn enter_here(
-    alloc: Global,
-    vault: &Vault,
-    front: &PlainPath,
-    here: Standing,
-) -> Result<Entered, FindFault>
+fn enter_here(vault: &Vault, front: &PlainPath, here: Standing) -> Result<Entered, FindFault>
     requires { EntersFit vault.now.vault here }
     ensures stands { IfOk result (λ entered. standing_of here ≡ stands.Dir entered.at (Ok entered.dir)) }
     ensures key { IfOk result (λ entered. FitsKey vault.now.vault entered.dir.key) }
@@ -165,7 +159,7 @@ fn enter_here(
         Standing::File(_) => Err(FindFault::WrongKind(front.copy()?)),
         Standing::Dir(at, directory) => match directory {
             Ok(dir) => Ok(Entered { at, dir }),
-            Err(lack) => Err(locked(joined(alloc, vault.root(), &at)?, lack)),
+            Err(lack) => Err(locked(vault.root().joined(&at)?, lack)),
         },
     }
 }
@@ -182,12 +176,7 @@ fn locked(at: FPath, lack: Lack) -> FindFault
 }
 
 // The place of what stands at a path.
-fn place_of(
-    alloc: Global,
-    root: &FPath,
-    path: &PlainPath,
-    here: &Standing,
-) -> Result<Place, FindFault>
+fn place_of(root: &FPath, path: &PlainPath, here: &Standing) -> Result<Place, FindFault>
     ensures place { IfOk result (λ place. IsPlace root.now (standing_of here.now) place) }
     ensures fault { IfErr result (λ fault. Refuses root.now (spec.item_there path.now (standing_of here.now)) fault) }
     ensures tried { result ≢ Err FindFault.Failed }
@@ -196,26 +185,26 @@ fn place_of(
         Standing::Absent => Err(FindFault::NotFound(path.copy()?)),
         Standing::Strange(_) => Err(FindFault::WrongKind(path.copy()?)),
         Standing::File(at) => Ok(Place {
-            at: joined(alloc, root, at)?,
+            at: root.joined(at)?,
             node: NodeKind::File,
         }),
         Standing::Dir(at, _) => Ok(Place {
-            at: joined(alloc, root, at)?,
+            at: root.joined(at)?,
             node: NodeKind::Dir,
         }),
     }
 }
 
 // The place of a directory.
-fn dir_place_of(alloc: Global, root: &FPath, entered: Entered) -> Result<DirPlace, AllocError>
+fn dir_place_of(root: &FPath, entered: Entered) -> Result<DirPlace, AllocError>
     ensures at { IfOk result (λ place. place.at ≡ root.now ++ entered.at) }
     ensures folder { IfOk result (λ place. place.folder ≡ root.now ++ entered.dir.folder) }
     ensures key { IfOk result (λ place. place.key ≡ entered.dir.key) }
 {
     let Entered { at, dir } = entered;
     Ok(DirPlace {
-        at: joined(alloc, root, &at)?,
-        folder: joined(alloc, root, &dir.folder)?,
+        at: root.joined(&at)?,
+        folder: root.joined(&dir.folder)?,
         key: dir.key,
     })
 }

@@ -14,7 +14,6 @@ use crate::looking::kind_under;
 use crate::vault::{Vault, VaultKind};
 use folder_model::{FPath, Folder, Kind};
 use folder_spec::FolderFault;
-use std::alloc::Global;
 use vault_spec::Finding;
 
 /// The file in a Cryptomator entry that holds a content.
@@ -39,7 +38,6 @@ pub enum EntryItem {
 
 /// What the entry at a path is, by whether its name is long. Paths begin at the vault's root.
 pub fn item_at<F: Folder>(
-    alloc: Global,
     folder: &mut F,
     vault: &Vault,
     at: &FPath,
@@ -50,22 +48,17 @@ pub fn item_at<F: Folder>(
     ensures counts { CountsAbove (F.faults folder.old) (F.faults folder.new) result }
 {
     match vault.kind() {
-        VaultKind::Gocryptfs => go_item_at(alloc, folder, vault.root(), at),
-        VaultKind::Cryptomator => cm_item_at(alloc, folder, vault.root(), at, long),
+        VaultKind::Gocryptfs => go_item_at(folder, vault.root(), at),
+        VaultKind::Cryptomator => cm_item_at(folder, vault.root(), at, long),
     }
 }
 
-fn go_item_at<F: Folder>(
-    alloc: Global,
-    folder: &mut F,
-    root: &FPath,
-    at: &FPath,
-) -> Result<EntryItem, FolderFault>
+fn go_item_at<F: Folder>(folder: &mut F, root: &FPath, at: &FPath) -> Result<EntryItem, FolderFault>
     ensures told { F.told folder.new ≡ F.told folder.old }
     ensures item { IfOk result (λ item. IfSeen (F.told folder.old) (λ v. item_of item ≡ go_item (under root.now v at.now))) }
     ensures counts { CountsAbove (F.faults folder.old) (F.faults folder.new) result }
 {
-    Ok(go_item(kind_under(alloc, folder, root, at)?))
+    Ok(go_item(kind_under(folder, root, at)?))
 }
 
 fn go_item(kind: Kind) -> EntryItem
@@ -80,7 +73,6 @@ fn go_item(kind: Kind) -> EntryItem
 }
 
 fn cm_item_at<F: Folder>(
-    alloc: Global,
     folder: &mut F,
     root: &FPath,
     at: &FPath,
@@ -90,11 +82,11 @@ fn cm_item_at<F: Folder>(
     ensures item { IfOk result (λ item. IfSeen (F.told folder.old) (λ v. item_of item ≡ cm_item_of long (under at.now (under root.now v)) (under root.now v at.now))) }
     ensures counts { CountsAbove (F.faults folder.old) (F.faults folder.new) result }
 {
-    match kind_under(alloc, folder, root, at)? {
+    match kind_under(folder, root, at)? {
         Kind::Missing => Ok(EntryItem::Nothing),
         Kind::File => Ok(entry_item(long, EntryItem::EntryFile)),
         Kind::Other => Ok(entry_item(long, EntryItem::NoItem(Finding::SymlinkFound))),
-        Kind::Dir => folder_item_at(alloc, folder, root, at, long),
+        Kind::Dir => folder_item_at(folder, root, at, long),
     }
 }
 
@@ -110,7 +102,6 @@ fn entry_item(long: bool, short: EntryItem) -> EntryItem
 }
 
 fn folder_item_at<F: Folder>(
-    alloc: Global,
     folder: &mut F,
     root: &FPath,
     at: &FPath,
@@ -120,15 +111,14 @@ fn folder_item_at<F: Folder>(
     ensures item { IfOk result (λ item. IfSeen (F.told folder.old) (λ v. item_of item ≡ folder_item_in long (under at.now (under root.now v)))) }
     ensures counts { CountsAbove (F.faults folder.old) (F.faults folder.new) result }
 {
-    let content = has_file(alloc, folder, root, at, CONTENT_FILE)?;
-    let id = has_file(alloc, folder, root, at, ID_FILE)?;
-    let symlink = has_file(alloc, folder, root, at, SYMLINK_FILE)?;
+    let content = has_file(folder, root, at, CONTENT_FILE)?;
+    let id = has_file(folder, root, at, ID_FILE)?;
+    let symlink = has_file(folder, root, at, SYMLINK_FILE)?;
     Ok(folder_item(long, content, id, symlink))
 }
 
 // Whether the entry at a path has a file of this name.
 fn has_file<F: Folder>(
-    alloc: Global,
     folder: &mut F,
     root: &FPath,
     at: &FPath,
@@ -139,7 +129,7 @@ fn has_file<F: Folder>(
     ensures counts { CountsAbove (F.faults folder.old) (F.faults folder.new) result }
 {
     let path = at.child(name)?;
-    Ok(kind_under(alloc, folder, root, &path)? == Kind::File)
+    Ok(kind_under(folder, root, &path)? == Kind::File)
 }
 
 // What a folder is, by which of the three files it has.

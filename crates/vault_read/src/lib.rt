@@ -21,7 +21,7 @@ pub use fault::LoadFault;
 pub use finding::{DirPlace, Place, enter, find};
 pub use items::{EntryItem, item_at};
 pub use listing::{Item, NameAt, list, name_at};
-pub use looking::{SmallFile, joined, kind_under, read_small};
+pub use looking::{SmallFile, kind_under, read_small};
 pub use reader::ContentReader;
 pub use standing::{Directory, Standing, key_at, root_standing};
 pub use vault::{CmVault, Vault, VaultKeys, VaultKind, content_folder, folder_of, stored_in};

@@ -19,7 +19,7 @@ ghost use Rattle.vault_read.specs.declared.looking.SmallFile.TheVariants.{Whole}
 
 use crate::finding::enter_at;
 use crate::items::{EntryItem, item_at};
-use crate::looking::{SmallFile, joined, read_under};
+use crate::looking::{SmallFile, read_under};
 use crate::standing::{Directory, full_path};
 use crate::vault::{OpenedKeys, Vault, VaultKind};
 use folder_model::{Entry, Folder};
@@ -128,7 +128,7 @@ fn items_in<F: Folder>(
     ensures items { IfOk result (λ items. IfSeen (F.told folder.old) (λ v. AreListed (format_of vault.now.vault) (under vault.now.root v) dir.now items.items)) }
     ensures counts { CountsAbove (F.faults folder.old) (F.faults folder.new) result }
 {
-    let at = joined(alloc, vault.root(), &dir.folder)?;
+    let at = vault.root().joined(&dir.folder)?;
     let entries = folder.list(&at)?;
     let items = items_of(alloc, folder, vault, dir, entries.as_slice())?;
     Ok(sorted(items))
@@ -191,7 +191,7 @@ fn entry_item<F: Folder>(
     };
     let NameAt { name, long } = found;
     let at = dir.folder.child(entry)?;
-    let item = item_at(alloc, folder, vault, &at, long)?;
+    let item = item_at(folder, vault, &at, long)?;
     Ok(named_item(name, item))
 }
 

@@ -1,5 +1,5 @@
 //! Looking at single paths of a folder.
-ghost use Rattle.std.specs.Prelude.{◌≡◌, ◌++◌, ◌<◌, map, string_bytes, IfOk, OnOk};
+ghost use Rattle.std.specs.Prelude.{◌≡◌, ◌<◌, IfOk};
 ghost use Rattle.folder_spec.specs.View.{kind_found};
 ghost use Rattle.folder_spec.specs.Seen.{IfSeen, ShowsFile, under};
 ghost use Rattle.folder_model.specs.Answers.{CountsAbove};
@@ -7,7 +7,7 @@ ghost use Rattle.vault_read.specs.Looking.{small_file};
 
 use folder_model::{FPath, Folder, Kind};
 use folder_spec::FolderFault;
-use std::alloc::{AllocError, Global};
+use std::alloc::Global;
 use text_model::Bytes;
 
 /// What stands where a small file is looked for.
@@ -22,27 +22,8 @@ pub enum SmallFile {
     Whole(Bytes),
 }
 
-fn push_parts(alloc: Global, parts: &mut Vec<String>, more: &[String]) -> Result<(), AllocError>
-    ensures { OnOk result (map (λ s. string_bytes s) parts.new.items ≡ map (λ s. string_bytes s) parts.old.items ++ map (λ s. string_bytes s) more.now) }
-{
-    for part in more {
-        parts.push(String::from_str(alloc, part.as_str())?)?;
-    }
-    Ok(())
-}
-
-/// One path behind another.
-pub fn joined(alloc: Global, root: &FPath, rest: &FPath) -> Result<FPath, AllocError>
-    ensures { IfOk result (λ at. at ≡ root.now ++ rest.now) }
-{
-    let mut parts = root.copy()?.into_parts();
-    push_parts(alloc, &mut parts, rest.parts())?;
-    Ok(FPath::from_parts(parts))
-}
-
 /// What stands at a path behind a root.
 pub fn kind_under<F: Folder>(
-    alloc: Global,
     folder: &mut F,
     root: &FPath,
     rest: &FPath,
@@ -51,7 +32,7 @@ pub fn kind_under<F: Folder>(
     ensures kind { IfOk result (λ kind. IfSeen (F.told folder.old) (λ v. kind ≡ kind_found (under root.now v rest.now))) }
     ensures counts { CountsAbove (F.faults folder.old) (F.faults folder.new) result }
 {
-    let at = joined(alloc, root, rest)?;
+    let at = root.joined(rest)?;
     folder.kind(&at)
 }
 
@@ -68,7 +49,7 @@ pub(crate) fn read_under<F: Folder>(
     ensures file { IfOk result (λ file. IfSeen (F.told folder.old) (λ v. file ≡ small_file limit (under root.now v rest.now))) }
     ensures counts { CountsAbove (F.faults folder.old) (F.faults folder.new) result }
 {
-    let at = joined(alloc, root, rest)?;
+    let at = root.joined(rest)?;
     read_small(alloc, folder, &at, limit)
 }
 

@@ -102,7 +102,7 @@ fn standing_at<F: Folder>(
     ensures counts { CountsAbove (F.faults folder.old) (F.faults folder.new) result }
 {
     let at = dir.folder.child(stored.name.as_str())?;
-    let item = item_at(alloc, folder, vault, &at, stored.full.is_some())?;
+    let item = item_at(folder, vault, &at, stored.full.is_some())?;
     let named = holds_full(alloc, folder, vault, dir, stored)?;
     standing_of(alloc, folder, vault, at, named, item)
 }
@@ -165,7 +165,7 @@ fn directory_with<F: Folder>(
         return Ok(Standing::Dir(at, Err(Lack::NoDirKey)));
     };
     let place = folder_of(alloc, vault, &at, key.as_slice())?;
-    match kind_under(alloc, folder, vault.root(), &place)? {
+    match kind_under(folder, vault.root(), &place)? {
         Kind::Dir => Ok(Standing::Dir(at, Ok(Directory { folder: place, key }))),
         _ => Ok(Standing::Dir(at, Err(Lack::NoFolder))),
     }

@@ -7,7 +7,6 @@ ghost use Rattle.vault_spec.specs.Vault.{format_of};
 ghost use Rattle.vault_spec.specs.Cryptomator as cryptomator;
 ghost use Rattle.vault_read.specs.Opened.{FitsKey, IsCryptomator, kind_of, vault_of, vault_with};
 
-use crate::looking::joined;
 use chunk_files::ContentKeys;
 use cryptomator_conf::Combo;
 use folder_model::FPath;
@@ -248,7 +247,7 @@ pub fn content_folder(alloc: Global, vault: &Vault, id: &[u8]) -> Result<FPath, 
     ensures { IfOk result (λ at. at ≡ vault.now.root ++ (format_of vault.now.vault).folder_of [] id.now) }
 {
     let folder = folder_of(alloc, vault, &FPath::base(alloc), id)?;
-    joined(alloc, &vault.root, &folder)
+    vault.root.joined(&folder)
 }
 
 /// The folder of the directory with this key, whose entry is at a path. Paths begin at the vault's root.

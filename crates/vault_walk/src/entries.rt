@@ -8,7 +8,7 @@ ghost use Rattle.folder_model.specs.Answers.{CountsAbove};
 use folder_model::{Entry, FPath, Folder, Kind};
 use folder_spec::FolderFault;
 use std::alloc::Global;
-use vault_read::{joined, kind_under};
+use vault_read::kind_under;
 
 // What stands below a path behind a root: the entries, in byte order of their names. There are none where no folder stands.
 pub(crate) fn entries_at<F: Folder>(
@@ -21,25 +21,20 @@ pub(crate) fn entries_at<F: Folder>(
     ensures listing { IfOk result (λ entries. IfSeen (F.told folder.old) (λ v. IsListing (under root.now v) at.now entries.items)) }
     ensures counts { CountsAbove (F.faults folder.old) (F.faults folder.new) result }
 {
-    match kind_under(alloc, folder, root, at)? {
-        Kind::Dir => listed(alloc, folder, root, at),
+    match kind_under(folder, root, at)? {
+        Kind::Dir => listed(folder, root, at),
         _ => Ok(Vec::new(alloc)),
     }
 }
 
 // The entries of a folder behind a root.
-fn listed<F: Folder>(
-    alloc: Global,
-    folder: &mut F,
-    root: &FPath,
-    at: &FPath,
-) -> Result<Vec<Entry>, FolderFault>
+fn listed<F: Folder>(folder: &mut F, root: &FPath, at: &FPath) -> Result<Vec<Entry>, FolderFault>
     requires { IfSeen (F.told folder.old) (λ v. under root.now v at.now ≡ Folder) }
     ensures told { F.told folder.new ≡ F.told folder.old }
     ensures listing { IfOk result (λ entries. IfSeen (F.told folder.old) (λ v. IsListing (under root.now v) at.now entries.items)) }
     ensures counts { CountsAbove (F.faults folder.old) (F.faults folder.new) result }
 {
-    let path = joined(alloc, root, at)?;
+    let path = root.joined(at)?;
     let entries = folder.list(&path)?;
     Ok(entries)
 }

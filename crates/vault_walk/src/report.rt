@@ -224,7 +224,7 @@ fn named_report<F: Folder>(
     ensures counts { CountsAbove (F.faults folder.old) (F.faults folder.new) result }
 {
     let NameAt { name, long } = named;
-    let item = item_at(alloc, folder, vault, at, long)?;
+    let item = item_at(folder, vault, at, long)?;
     let found = found_inside(alloc, folder, vault, at, long, item)?;
     match item {
         EntryItem::Directory => {
@@ -299,7 +299,7 @@ fn lead_at<F: Folder>(
         return Ok(Lead::NoKey);
     };
     let place = folder_of(alloc, vault, at, key.as_slice())?;
-    let kind = kind_under(alloc, folder, vault.root(), &place)?;
+    let kind = kind_under(folder, vault.root(), &place)?;
     let dir = Directory { folder: place, key };
     match kind {
         Kind::Dir => Ok(Lead::To(dir)),
@@ -367,7 +367,7 @@ fn side_of<F: Folder>(
         return Ok(Some(Finding::OrphanLongName));
     }
     let at = dir.folder.child(entry)?;
-    let kind = kind_under(alloc, folder, vault.root(), &at)?;
+    let kind = kind_under(folder, vault.root(), &at)?;
     Ok(idle_by(kind))
 }
 

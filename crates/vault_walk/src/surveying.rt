@@ -32,8 +32,8 @@ use folder_model::{FPath, Folder};
 use folder_spec::FolderFault;
 use std::alloc::{AllocError, Global};
 use std::collections::BTreeSet;
+use vault_read::Vault;
 use vault_read::laws::clean_vaults_are_orderly;
-use vault_read::{Vault, joined};
 use vault_spec::laws::what_stands_is_found_step_by_step;
 
 /// What a survey tells of a vault: its items, its findings, which have the numbers 1 to 11, and its notes, which have the number 14.
@@ -184,17 +184,17 @@ fn plan_of(alloc: Global, root: &FPath, items: Vec<PlanItem>) -> Result<Plan, Al
 {
     let mut placed = Vec::new(alloc);
     for item in items {
-        placed.push(item_behind(alloc, root, item)?)?;
+        placed.push(item_behind(root, item)?)?;
     }
     Ok(Plan {
         items: PlanItems::new(placed),
     })
 }
 
-fn item_behind(alloc: Global, root: &FPath, item: PlanItem) -> Result<PlanItem, AllocError>
+fn item_behind(root: &FPath, item: PlanItem) -> Result<PlanItem, AllocError>
     ensures { IfOk result (λ behind. behind ≡ placed root.now item) }
 {
-    let at = joined(alloc, root, &item.at)?;
+    let at = root.joined(&item.at)?;
     Ok(PlanItem { at, ..item })
 }
 
@@ -206,7 +206,7 @@ fn findings_of(alloc: Global, root: &FPath, found: &[Found]) -> Result<Vec<Findi
     for one in found {
         if one.number <= 11 {
             findings.push(Finding {
-                at: joined(alloc, root, &one.at)?,
+                at: root.joined(&one.at)?,
                 number: one.number,
                 fault: None,
             })?;
@@ -222,7 +222,7 @@ fn notes_of(alloc: Global, root: &FPath, found: &[Found]) -> Result<Vec<FPath>, 
     let mut notes = Vec::new(alloc);
     for one in found {
         if one.number == 14 {
-            notes.push(joined(alloc, root, &one.at)?)?;
+            notes.push(root.joined(&one.at)?)?;
         }
     }
     Ok(notes)

@@ -1,6 +1,7 @@
 //! The texts that messages are put together of.
 ghost use Rattle.std.specs.List.{flat_map};
 ghost use Rattle.std.specs.Prelude.{◌≡◌, ◌++◌, ◌∷◌, [], IfOk, codes, map, string_bytes};
+ghost use Rattle.std.specs.Rc.{rc_str_bytes};
 ghost use Rattle.hex.specs.Hex.{encode_lower};
 ghost use Rattle.plain_tree.specs.Shown.{shown, shown_path};
 ghost use Rattle.command_answers.specs.Messages.{damage_text, differing_text, flaw_text, limit_text, name_numbered, named_text, plan_text, refusal_text};
@@ -9,6 +10,7 @@ use crate::answer::{Damage, Difference, Flaw, Limit, Named, Refusal};
 use folder_model::FPath;
 use plain_tree::{PlainPath, shown_text};
 use std::alloc::{AllocError, Global};
+use std::rc::RcStr;
 
 // One text behind another.
 pub(crate) fn behind(alloc: Global, words: &str, text: &str) -> Result<String, AllocError>
@@ -173,8 +175,8 @@ pub fn shown_folder(alloc: Global, at: &FPath) -> Result<String, AllocError>
 }
 
 // The text, and then the shown form of each other part behind a slash.
-fn shown_before(alloc: Global, mut text: String, others: &[String]) -> Result<String, AllocError>
-    ensures { IfOk result (λ whole. string_bytes whole ≡ string_bytes text ++ flat_map (λ part. (47 ∷ []) ++ shown part) (map string_bytes others.now)) }
+fn shown_before(alloc: Global, mut text: String, others: &[RcStr]) -> Result<String, AllocError>
+    ensures { IfOk result (λ whole. string_bytes whole ≡ string_bytes text ++ flat_map (λ part. (47 ∷ []) ++ shown part) (map rc_str_bytes others.now)) }
 {
     for part in others {
         text.push('/')?;

@@ -9,6 +9,7 @@ use port_model::{ListRandoms, MemSink, MemSource, Source};
 use row_words::{Said, bytes_of, cut, number};
 use std::alloc::{AllocError, Global};
 use std::mem;
+use std::rc::RcStr;
 
 /// How many bytes are shown; of more their number and sum are.
 pub const MOST_SHOWN: usize = 1_000;
@@ -415,10 +416,10 @@ impl Stage {
 }
 
 // The parts of a path.
-fn parts_of(alloc: Global, word: &str) -> Result<Vec<String>, AllocError> {
+fn parts_of(alloc: Global, word: &str) -> Result<Vec<RcStr>, AllocError> {
     let mut parts = Vec::new(alloc);
     for part in word.split('/') {
-        parts.push(String::from_str(alloc, part)?)?;
+        parts.push(RcStr::from_str(alloc, part)?)?;
     }
     Ok(parts)
 }

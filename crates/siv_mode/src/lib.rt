@@ -9,5 +9,5 @@ mod mac;
 mod siv;
 mod strings;
 
-pub use mac::cmac;
+pub use mac::Cmac;
 pub use siv::{Siv, SivFault};

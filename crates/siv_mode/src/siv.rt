@@ -7,6 +7,7 @@ ghost use Rattle.siv_mode.specs.declared.siv.SivFault.TheVariants.{Short, BadTag
 ghost use Rattle.aes_lanes.specs.Counter.{ctr128};
 
 use super::blocks::whole;
+use super::mac::Cmac;
 use super::strings::s2v;
 use aes_lanes::laws::counter_mode_undoes_itself;
 use aes_lanes::{Block, Cipher, ctr128_xor, same_bytes};
@@ -37,7 +38,7 @@ impl From<AllocError> for SivFault {
 /// SIV under two keys of a cipher, the key of S2V and the key of counter mode.
 #[derive(Drop)]
 pub struct Siv<C: Cipher> {
-    mac: C,
+    mac: Cmac<C>,
     ctr: C,
 }
 
@@ -55,7 +56,10 @@ impl<C: Cipher> Siv<C> {
         ensures mac { result.mac ≡ mac }
         ensures ctr { result.ctr ≡ ctr }
     {
-        Siv { mac, ctr }
+        Siv {
+            mac: Cmac::new(mac),
+            ctr,
+        }
     }
 
     /// S2V of an associated string, where there is one, and the last string (section 2.4). Takes no

@@ -6,29 +6,29 @@ ghost use Rattle.siv_mode.specs.Cmac.{cmac as cmac_of};
 ghost use Rattle.siv_mode.specs.S2v.{associated, last_text, s2v as s2v_of, summed as summed_of, xorend as xorend_of};
 
 use super::blocks::{doubled, padded, sum, whole};
-use super::mac::{chained, cmac, cmac_from};
+use super::mac::Cmac;
 use aes_lanes::{Block, Cipher};
 
 // S2V of an associated string, where there is one, and the last string.
-pub fn s2v<C: Cipher>(cipher: &C, ad: Option<&[u8]>, string: &[u8]) -> Block
-    ensures { result ≡ s2v_of (C.image cipher.now) (associated ad.entry) string.now }
+pub fn s2v<C: Cipher>(mac: &Cmac<C>, ad: Option<&[u8]>, string: &[u8]) -> Block
+    ensures { result ≡ s2v_of (C.image mac.now) (associated ad.entry) string.now }
 {
-    let sum = summed(cipher, ad);
+    let sum = summed(mac, ad);
     if string.len() < 16 {
-        return cmac(cipher, &short_text(&sum, string));
+        return mac.of(&short_text(&sum, string));
     }
-    cmac_of_long(cipher, &sum, string)
+    cmac_of_long(mac, &sum, string)
 }
 
 // The value D before the last string.
-fn summed<C: Cipher>(cipher: &C, ad: Option<&[u8]>) -> Block
+fn summed<C: Cipher>(mac: &Cmac<C>, ad: Option<&[u8]>) -> Block
     ensures { result
-        ≡ summed_of (C.image cipher.now) (cmac_of (C.image cipher.now) zero_block) (associated ad.entry) }
+        ≡ summed_of (C.image mac.now) (cmac_of (C.image mac.now) zero_block) (associated ad.entry) }
 {
-    let first = cmac(cipher, &[0; 16]);
+    let first = mac.of(&[0; 16]);
     match ad {
         None => first,
-        Some(string) => sum(&doubled(&first), &cmac(cipher, string)),
+        Some(string) => sum(&doubled(&first), &mac.of(string)),
     }
 }
 
@@ -41,21 +41,21 @@ fn short_text(d: &Block, string: &[u8]) -> Block
 }
 
 // CMAC of the text of D and a last string of 16 bytes or more.
-fn cmac_of_long<C: Cipher>(cipher: &C, d: &Block, string: &[u8]) -> Block
+fn cmac_of_long<C: Cipher>(mac: &Cmac<C>, d: &Block, string: &[u8]) -> Block
     requires { 16 ≤ length string.now }
-    ensures { result ≡ cmac_of (C.image cipher.now) (xorend_of string.now d.now) }
+    ensures { result ≡ cmac_of (C.image mac.now) (xorend_of string.now d.now) }
 {
     let mut value = [0; 16];
     let mut rest = string;
     while rest.len() >= 32 {
         let (block, others) = rest.split_at(16);
-        let next = chained(cipher, &value, &whole(block));
+        let next = mac.chained(&value, &whole(block));
         value = next;
         rest = others;
     }
     let (front, back) = rest.split_at(rest.len() - 16);
     let end = sum(&whole(back), d);
-    cmac_from(cipher, &value, joined(&mut [0; 32], front, &end))
+    mac.from(&value, joined(&mut [0; 32], front, &end))
 }
 
 // Two byte strings end to end, in a room for 32 bytes.

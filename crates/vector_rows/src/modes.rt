@@ -9,12 +9,12 @@ use eme_mode::Eme;
 use eme_mode::laws::directions_undo_each_other;
 use key_wrap::laws::unwrapping_undoes_wrapping;
 use key_wrap::{unwrap_key, wrap_key};
-use siv_mode::{Siv, SivFault, cmac};
+use siv_mode::{Cmac, Siv, SivFault};
 
 /// Makes a call of this module, and says whether there is one of this name.
 pub fn answer(name: &str, args: &mut Arguments, answer: &mut Answer) -> bool {
     match name {
-        "cmac-128" => answer.bytes(&cmac(&Key128::new(&args.array(0)), args.bytes(1))),
+        "cmac-128" => answer.bytes(&Cmac::new(Key128::new(&args.array(0))).of(args.bytes(1))),
         "s2v-128" => answer.bytes(&siv(args).s2v(associated(args), args.bytes(3))),
         "siv-128" => sealed(args, answer),
         "siv-128-open" => opened(args, answer),

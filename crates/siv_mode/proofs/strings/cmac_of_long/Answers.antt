@@ -13,11 +13,11 @@ loop-rest-preserved g c = record {
   long = omega (arith, c.split_at.ensures.back_len);
   same =
       rw (c.chained-next.ensures, c.whole.ensures, c.split_at.ensures.front, c.split_at.ensures.back)
-      (sym (cmac_from-xorend (g.C.Cipher.image c.args.cipher.now) c.loop-rest.value c.loop-rest.rest.now c.args.d.now c.told-d c.loop-rest-test.true) ∙ c.loop-rest.invariant.same);
+      (sym (cmac_from-xorend (g.C.Cipher.image c.args.mac.now) c.loop-rest.value c.loop-rest.rest.now c.args.d.now c.told-d c.loop-rest-test.true) ∙ c.loop-rest.invariant.same);
 }
 
 pub returns : goal.returns
 returns g c =
-    c.cmac_from.ensures
+    c.from.ensures
     ∙ rw (c.joined.ensures, c.sum-end.ensures, c.whole-2.ensures, c.split_at-2.ensures.front, c.split_at-2.ensures.back, xorend-parts c.loop-rest.rest.now c.args.d.now _ c.told-d refl)
     c.loop-rest.invariant.same

@@ -7,7 +7,7 @@ use Rattle.siv_mode.proofs.strings.cmac_of_long.Given as goal
 abbrev pub invariant-loop-rest : goal.invariant-loop-rest
 invariant-loop-rest g l = record {
   long : 16 ≤ length l.rest;
-  same : cmac_from (g.C.Cipher.image l.cipher) l.value (xorend l.rest l.d) ≡ cmac (g.C.Cipher.image l.cipher) (xorend l.string l.d);
+  same : cmac_from (g.C.Cipher.image l.mac) l.value (xorend l.rest l.d) ≡ cmac (g.C.Cipher.image l.mac) (xorend l.string l.d);
 }
 
 abbrev pub decreases-loop-rest : goal.decreases-loop-rest

@@ -5,7 +5,7 @@ use Rattle.siv_mode.proofs.strings.s2v.Goals as goal
 
 pub returns-then-string-lt16 : goal.returns-then-string-lt16
 unfolding s2v
-returns-then-string-lt16 g c = c.cmac.ensures ∙ rw (c.short_text.ensures, c.summed-sum.ensures) refl
+returns-then-string-lt16 g c = c.of.ensures ∙ rw (c.short_text.ensures, c.summed-sum.ensures) refl
 
 pub returns : goal.returns
 unfolding s2v

@@ -2,6 +2,7 @@
 
 use crate::listed::Listings;
 use crate::places::{are_same, is_at_or_below};
+use crate::plain::Plain;
 use folder_model::{Entry, FPath, Kind};
 use std::alloc::{AllocError, Global};
 
@@ -19,6 +20,7 @@ struct Seen {
 pub struct Kinds {
     seen: Vec<Seen>,
     listed: Listings,
+    plain: Plain,
 }
 
 impl Kinds {
@@ -26,6 +28,7 @@ impl Kinds {
         Kinds {
             seen: Vec::new(alloc),
             listed: Listings::new(alloc),
+            plain: Plain::new(alloc),
         }
     }
 
@@ -66,14 +69,21 @@ impl Kinds {
         self.listed.put(at, Some(kind));
     }
 
+    // Whether nothing but files and directories stands in the directory above a path.
+    pub fn are_plain_above(&mut self, at: &FPath) -> bool {
+        self.plain.has_above(at)
+    }
+
     // Keeps what stands in a directory.
     pub fn keep_all(&mut self, dir: &FPath, entries: &[Entry]) {
         self.listed.keep(dir, entries);
+        self.plain.keep(dir, entries);
     }
 
     // Forgets what stood at and below a path, and keeps what stands there now, if that is known, as `learn` does.
     pub fn forget_below(&mut self, at: &FPath, stands: Option<Kind>) {
         self.seen.retain(|seen| !is_at_or_below(&seen.at, at));
         self.listed.forget_below(at, stands);
+        self.plain.forget(at);
     }
 }

@@ -14,6 +14,7 @@ mod listing;
 mod noted;
 mod pieces;
 mod places;
+mod plain;
 mod sign_of_life;
 
 pub use causes::{Cause, Trouble};

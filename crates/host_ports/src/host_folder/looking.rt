@@ -172,7 +172,20 @@ impl HostFolder {
         ensures bar { self.new.barred ≡ self.old.barred }
         ensures faults { self.new.faults ≡ self.old.faults }
     {
-        let text = self.place_of(at, Kind::File)?;
+        let text = self.place_to_read(at)?;
         Opened::open(&self.rt, at, text.as_str())
+    }
+
+    // The text of a file to be read. It isn't looked at where nothing stands beside it that could be a link or could hold up who opens it.
+    fn place_to_read(&mut self, at: &FPath) -> Result<String, Cause>
+        ensures looks { LooksAt at.now self.old.dirs self.new.dirs result }
+        ensures bar { self.new.barred ≡ self.old.barred }
+        ensures faults { self.new.faults ≡ self.old.faults }
+    {
+        if self.kinds.are_plain_above(at) {
+            self.room_at(at)
+        } else {
+            self.place_of(at, Kind::File)
+        }
     }
 }

@@ -1,0 +1,113 @@
+//! Directories of claimed folders in which nothing but files and directories stood when they were listed.
+
+use folder_model::{Entry, FPath, Kind};
+use std::alloc::{AllocError, Global};
+use std::collections::BTreeSet;
+use std::mem;
+use std::ops::Bound;
+
+// Those in which this process has changed nothing since, and the two of them that were asked for last, which take no search.
+#[derive(Drop)]
+pub struct Plain {
+    alloc: Global,
+    dirs: BTreeSet<FPath, Global>,
+    last: Option<FPath>,
+    other: Option<FPath>,
+}
+
+impl Plain {
+    pub fn new(alloc: Global) -> Plain {
+        Plain {
+            alloc,
+            dirs: BTreeSet::new(alloc),
+            last: None,
+            other: None,
+        }
+    }
+
+    // Keeps a directory, if it is one and there is memory for it.
+    pub fn keep(&mut self, dir: &FPath, entries: &[Entry]) {
+        if entries.iter().all(|entry| entry.kind != Kind::Other) {
+            let _ = self.add(dir);
+        }
+    }
+
+    fn add(&mut self, dir: &FPath) -> Result<(), AllocError> {
+        self.dirs.insert(dir.copy()?)?;
+        Ok(())
+    }
+
+    // Whether the directory above a path is kept.
+    pub fn has_above(&mut self, at: &FPath) -> bool {
+        if self.dirs.is_empty() {
+            return false;
+        }
+        if !is_above(&self.last, at) {
+            mem::swap(&mut self.last, &mut self.other);
+        }
+        if !is_above(&self.last, at) {
+            self.last = self.found_above(at);
+        }
+        self.last.is_some()
+    }
+
+    fn found_above(&self, at: &FPath) -> Option<FPath> {
+        let above = at.parent().ok()?;
+        if self.dirs.contains(&above) {
+            Some(above)
+        } else {
+            None
+        }
+    }
+
+    // Lets go of the directory above a path at which something changes, and of those at and below it; of all without memory for that.
+    pub fn forget(&mut self, at: &FPath) {
+        if self.dirs.is_empty() {
+            return;
+        }
+        if is_touched(&self.last, at) {
+            self.last = None;
+        }
+        if is_touched(&self.other, at) {
+            self.other = None;
+        }
+        if self.remove(at).is_err() {
+            self.dirs.clear();
+        }
+    }
+
+    fn remove(&mut self, at: &FPath) -> Result<(), AllocError> {
+        let below = self.found_below(at)?;
+        self.dirs.remove(&at.parent()?);
+        for dir in below.as_slice() {
+            self.dirs.remove(dir);
+        }
+        Ok(())
+    }
+
+    fn found_below(&self, at: &FPath) -> Result<Vec<FPath>, AllocError> {
+        let mut below = Vec::new(self.alloc);
+        for dir in self.dirs.range((Bound::Included(at), Bound::Unbounded)) {
+            if !dir.starts_with(at) {
+                break;
+            }
+            below.push(dir.copy()?)?;
+        }
+        Ok(below)
+    }
+}
+
+fn is_above(dir: &Option<FPath>, at: &FPath) -> bool {
+    match dir {
+        Some(dir) => dir.depth().saturating_add(1) == at.depth() && at.starts_with(dir),
+        None => false,
+    }
+}
+
+// Whether a directory is the one above a path, or at or below it.
+fn is_touched(dir: &Option<FPath>, at: &FPath) -> bool {
+    match dir {
+        Some(known) => is_above(dir, at) || known.starts_with(at),
+        None => false,
+    }
+}

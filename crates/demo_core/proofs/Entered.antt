@@ -1,21 +1,17 @@
 -- The directory above each item of the demonstration is entered, and an empty vault is in good order.
-use Rattle.std.proofs.Common.{◌≡◌, ◌≢◌, ◌∙◌, ◌*◌, ◌/◌, ◌%◌, ◌<◌, ◌↔◌, ℕ, zero, suc, Bool, true, false, cond, nat_eq, List, [], ◌∷◌, Option, Some, None, Result, Ok, Err, inl, refl, sym, ap, subst, arith}
+use Rattle.std.proofs.Common.{◌≡◌, ◌≢◌, ◌∙◌, ◌*◌, ◌/◌, ◌%◌, ◌<◌, ℕ, zero, suc, Bool, true, false, cond, nat_eq, List, [], ◌∷◌, Result, Ok, Err, inl, refl, sym, ap, subst, arith}
 use Rattle.std.proofs.lemmas.Bool.Decides.{nat_tests}
-use Rattle.chunk_files.specs.Contents.{readable}
-use Rattle.chunk_files.specs.Keys.{Keys}
-use Rattle.chunk_files.specs.Reading.{Ending, Faulty, Wanting, Whole}
 use Rattle.folder_spec.specs.Path as folder
 use Rattle.folder_spec.specs.View.{FileOf, Folder, Found, NoEntry, Special, View}
 use Rattle.plain_tree.specs.Names as plain
-use Rattle.vault_spec.specs.Alike.{HasFolders, IsOrderly, place_of}
+use Rattle.vault_spec.specs.Alike.{HasFolders, IsOrderly}
 use Rattle.vault_spec.specs.Empty.{IsEmptyVault}
 use Rattle.vault_spec.specs.Find.{enter}
 use Rattle.vault_spec.specs.Format.{Directory, Format}
 use Rattle.vault_spec.specs.Opens as opens
-use Rattle.vault_spec.specs.Opens.{NoItem, opened, opened_by, opened_file, tree}
-use Rattle.vault_spec.specs.Plan.{StandsBelow}
+use Rattle.vault_spec.specs.Opens.{NoItem, opened, tree}
 use Rattle.vault_spec.specs.Reached.{Leads}
-use Rattle.vault_spec.specs.Standing.{Absent, Dir, File, Standing, Strange, directory_with, root_of, standing, standing_from, standing_in}
+use Rattle.vault_spec.specs.Standing.{Dir, directory_with, root_of, standing, standing_from, standing_in}
 use Rattle.vault_spec.specs.Vault.{Vault, IsVault, LoadsFrom}
 use Rattle.vault_spec.specs.declared.Finding.TheVariants as finding
 use Rattle.vault_spec.specs.declared.Lack.{Lack}
@@ -23,40 +19,8 @@ use Rattle.vault_spec.specs.declared.Lack.TheVariants.{NoDirKey, NoFolder}
 use Rattle.demo_core.specs.Demonstration.{directory_path, is_directory, path_of}
 use Rattle.demo_core.specs.Tree.{HasItems, opens_as}
 use Rattle.demo_core.proofs.Apart.{above_of, item_front}
-
--- ---- a directory that opens in an orderly vault
-
-abbrev pub StandBelow : Type 0
-StandBelow = (f : Format) (v : View) (path : plain.Path) (at : folder.Path) → path ≢ [] → place_of (standing f v path) ≡ Some at → StandsBelow f v path
-
-abbrev pub EnteredLeads : Type 0
-EnteredLeads = (f : Format) (v : View) (path : plain.Path) (dir : Directory) → (enter f v path ≡ Ok dir) ↔ Leads f v path dir
-
-no_directory : (keys : Keys) (bytes : Option (List ℕ)) → opened_file keys bytes ≢ opens.Directory
-no_directory keys None e = cc e
-no_directory keys (Some bytes) e = by (readable keys bytes).chunks (readable keys bytes).ending e
-  where
-    by : (chunks : List (List ℕ)) (ending : Ending) → opened_by chunks ending ≢ opens.Directory
-    by chunks Whole e = cc e
-    by chunks (Faulty fault) e = cc e
-    by chunks Wanting e = cc e
-
-never_locked : StandBelow → (f : Format) (v : View) → IsOrderly f v → (path : plain.Path) (at : folder.Path) (lack : Lack) → standing f v path ≢ Dir at (Err lack)
-never_locked below f v orderly [] at lack is = let e : Dir [] (Ok orderly.top) ≡ Dir at (Err lack) = sym orderly.root ∙ is in cc e
-never_locked below f v orderly (name ∷ rest) at lack is =
-    let up : StandsBelow f v (name ∷ rest) = below f v (name ∷ rest) at (λ e. cc e) (ap place_of is) in
-    orderly.entered up.front up.dir up.name at lack up.leads (up.stands ∙ is)
-
-leads_to : StandBelow → (f : Format) (v : View) → IsOrderly f v → (path : plain.Path) → tree f v path ≡ opens.Directory → (dir : Directory) × Leads f v path dir
-unfolding opened
-leads_to below f v orderly path is = by (standing f v path) refl is
-  where
-    by : (s : Standing) → standing f v path ≡ s → opens.opened_at f v s ≡ opens.Directory → (dir : Directory) × Leads f v path dir
-    by Absent e o = cc o
-    by (Strange at) e o = cc o
-    by (File at) e o = absurd (no_directory f.content _ o)
-    by (Dir at (Ok dir)) e o = (dir, record { at = at; stands = e })
-    by (Dir at (Err lack)) e o = absurd (never_locked below f v orderly path at lack e)
+use Rattle.vault_walk.proofs.OpenDirectories.{EnteredLeads, leads_to}
+use Rattle.vault_walk.proofs.Walks.{StandBelow}
 
 -- ---- the directory that is to have an item
 

@@ -45,10 +45,11 @@ use Rattle.demo_core.specs.Tree.{HasItems, opens_as}
 use Rattle.demo_core.proofs.Apart.{item_front, item_name, items_more, path_ends}
 use Rattle.demo_core.proofs.Beside.{beside_by}
 use Rattle.demo_core.proofs.Drawn.{run_refused}
-use Rattle.demo_core.proofs.Entered.{EnteredLeads, StandBelow, front_entered}
+use Rattle.demo_core.proofs.Entered.{front_entered}
+use Rattle.vault_walk.proofs.OpenDirectories.{EnteredLeads}
 use Rattle.demo_core.proofs.Shared.{HaveContents, goes_beside, goes_nowhere, lacks_place_at}
 use Rattle.demo_core.proofs.Standing.{not_staged, seen_alone}
-use Rattle.demo_core.proofs.Within.{StandBehind}
+use Rattle.vault_walk.proofs.Walks.{StandBehind, StandBelow}
 
 -- ---- the item
 

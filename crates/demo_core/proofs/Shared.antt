@@ -29,9 +29,10 @@ use Rattle.demo_core.specs.Sharing.{GoesOn, LacksOwnPlace, SharesPlace}
 use Rattle.demo_core.specs.Tree.{HasItems}
 use Rattle.demo_core.proofs.Apart.{item_front, item_name, path_ends, paths_tell}
 use Rattle.demo_core.proofs.Drawn.{Compose}
-use Rattle.demo_core.proofs.Entered.{EnteredLeads}
+use Rattle.vault_walk.proofs.OpenDirectories.{EnteredLeads}
 use Rattle.demo_core.proofs.Naming.{is_name-directory, is_name-file}
-use Rattle.demo_core.proofs.Within.{StandBehind, content_opens}
+use Rattle.vault_walk.proofs.Walks.{StandBehind}
+use Rattle.vault_spec.proofs.Endings.{content_opens}
 
 abbrev pub HaveContents : Type 0
 HaveContents = (vault : Vault) (v : View) (path : plain.Path) (at : folder.Path) → standing (format_of vault) v path ≡ File at → ShowsFile v at

@@ -5,25 +5,22 @@ use Rattle.std.proofs.lemmas.Bool.Decides.{nat_tests}
 use Rattle.std.proofs.lemmas.List.{length-append, length-map}
 use Rattle.std.proofs.lemmas.List.Elements.{Contains-get_or}
 use Rattle.std.proofs.lemmas.Map.Made.{IsDistinct-from_AllPairs}
-use Rattle.chunk_files.specs.Contents.{readable}
-use Rattle.chunk_files.specs.Keys.{Keys}
-use Rattle.chunk_files.specs.Reading.{Ending, Faulty, Wanting, Whole}
 use Rattle.folder_spec.specs.Path as folder
 use Rattle.folder_spec.specs.Seen.{ShowsFile}
 use Rattle.folder_spec.specs.View.{View}
 use Rattle.plain_tree.specs.Names.{Path}
 use Rattle.plain_tree.specs.declared.NodeKind.{NodeKind}
-use Rattle.vault_spec.proofs.Endings.{whole_ends}
+use Rattle.vault_spec.proofs.Endings.{content_opens}
 use Rattle.vault_spec.proofs.Mapped.{all_pairs_mapped, mapped_from}
-use Rattle.vault_spec.specs.Format.{Directory, Format, file_bytes}
+use Rattle.vault_spec.specs.Format.{Format, file_bytes}
 use Rattle.vault_spec.specs.Listing.{node_of}
 use Rattle.vault_spec.specs.Opens as opens
-use Rattle.vault_spec.specs.Opens.{NoItem, opened, opened_at, opened_by, opened_file, tree}
+use Rattle.vault_spec.specs.Opens.{NoItem, opened, opened_at, opened_file, tree}
 use Rattle.vault_spec.specs.Plan.{Planned}
-use Rattle.vault_spec.specs.Reached.{Leads}
 use Rattle.vault_spec.specs.Standing.{Absent, Dir, File, Standing, Strange, standing, standing_in}
 use Rattle.vault_walk.specs.Survey.{HasTooMany, IsNear, IsTooDeep}
 use Rattle.vault_walk.specs.Surveyed.{IsWithin}
+use Rattle.vault_walk.proofs.Walks.{StandBehind}
 use Rattle.demo_core.specs.Demonstration.{directory_name, directory_path, file_name, is_directory, path_of}
 use Rattle.demo_core.specs.Tree.{HasItems}
 use Rattle.demo_core.proofs.Numbered.{decides, fewer, number_at, some_of_first}
@@ -49,14 +46,6 @@ few_names number = by (is_directory number)
 
 -- ---- what stands opens
 
-pub content_opens : (keys : Keys) (bytes : List ℕ) → opened_file keys (Some bytes) ≢ NoItem
-content_opens keys bytes = by (readable keys bytes).ending (whole_ends keys bytes)
-  where
-    by : (ending : Ending) → ending ≢ Wanting → opened_by (readable keys bytes).chunks ending ≢ NoItem
-    by Whole some = λ e. cc e
-    by (Faulty fault) some = λ e. cc e
-    by Wanting some = absurd (some refl)
-
 item_opens : (f : Format) (v : View) (s : Standing) (node : NodeKind) → ((at : folder.Path) → s ≡ File at → ShowsFile v at) → node_of s ≡ Some node → opened_at f v s ≢ NoItem
 item_opens f v Absent node has is = λ e. cc is
 item_opens f v (Strange at) node has is = λ e. cc is
@@ -64,9 +53,6 @@ item_opens f v (Dir at directory) node has is = λ e. cc e
 item_opens f v (File at) node has is =
     let there : ShowsFile v at = has at refl in
     λ e. content_opens f.content there.0 (ap (λ x. opened_file f.content (file_bytes x)) (sym there.1) ∙ e)
-
-abbrev pub StandBehind : Type 0
-StandBehind = (f : Format) (v : View) (front : Path) (dir : Directory) (name : List ℕ) → Leads f v front dir → standing f v (front ++ name ∷ []) ≡ standing_in f v dir name
 
 -- ---- no limit is passed
 

@@ -26,7 +26,8 @@ use Rattle.vault_spec.specs.Vault.{format_of}
 use Rattle.vault_walk.specs.Survey.{item_limit}
 use Rattle.work_folder.specs.Changing.{ChangesAt}
 use Rattle.work_folder.specs.Entering.{IsWorkOrStage, IsLeftOver}
-use Rattle.migrate_core.proofs.Fronts.{StandBelow, allows_tree}
+use Rattle.migrate_core.proofs.Fronts.{allows_tree}
+use Rattle.vault_walk.proofs.Walks.{StandBelow}
 use Rattle.migrate_core.proofs.Leadings.{alone_goes, goes_given, goes_on}
 use Rattle.migrate_core.proofs.Planned.{SeenAlone, source_held, source_walk}
 use Rattle.migrate_core.specs.Leading.{Goes, Leads, LeadsEach, LeadsTold}

@@ -32,10 +32,10 @@ use Rattle.vault_spec.specs.Vault.{format_of}
 use Rattle.vault_walk.specs.Surveyed.{IsWithin}
 use Rattle.vault_walk.specs.declared.fault.WalkFault.{WalkFault}
 use Rattle.vault_walk.specs.declared.fault.WalkFault.TheVariants as walk
-use Rattle.migrate_core.proofs.Fronts.{StandBelow}
 use Rattle.migrate_core.proofs.MappedItems.{TellsMapped, item_at, opens_from}
 use Rattle.migrate_core.proofs.Planned.{mapped_walk_of, walk_of}
-use Rattle.migrate_core.proofs.Within.{StandBehind, part_within}
+use Rattle.migrate_core.proofs.Within.{part_within}
+use Rattle.vault_walk.proofs.Walks.{StandBehind, StandBelow}
 use Rattle.migrate_core.specs.Causes.{IsStop, nothing_stops}
 use Rattle.migrate_core.specs.Copying.{HasCopied, IsCopying}
 use Rattle.migration_spec.specs.Guard.{tree_at}

@@ -1,15 +1,11 @@
 -- That the directory which is to have an item of the source is entered in the target.
-use Rattle.std.proofs.Common.{◌≡◌, ◌≢◌, ◌<◌, ◌↔◌, ℕ, zero, suc, List, [], ◌∷◌, ◌++◌, length, take, get_or, Contains, Option, Some, None, Ok, Err, refl, sym, ap, ◌∙◌, inl, inr, subst, arith}
+use Rattle.std.proofs.Common.{◌≡◌, ◌≢◌, ◌<◌, ℕ, zero, suc, List, [], ◌∷◌, ◌++◌, length, take, get_or, Contains, sym, ap, ◌∙◌, inl, inr, subst, arith}
 use Rattle.std.proofs.lemmas.Bool.{cases_order}
 use Rattle.std.proofs.lemmas.Cmp.{tied_itself}
 use Rattle.std.proofs.lemmas.List.{get_or_default}
 use Rattle.std.proofs.lemmas.List.Elements.{Contains-append_right}
 use Rattle.std.specs.Ordering.{ordering_reverse}
 use Rattle.std.specs.declared.cmp.Ordering.TheVariants.{Less, Equal, Greater}
-use Rattle.chunk_files.specs.Contents.{readable}
-use Rattle.chunk_files.specs.Keys.{Keys}
-use Rattle.chunk_files.specs.Reading.{Ending, Faulty, Wanting, Whole}
-use Rattle.folder_spec.specs.Path as folder
 use Rattle.folder_spec.specs.Seen.{under}
 use Rattle.folder_spec.specs.View.{View}
 use Rattle.plain_tree.specs.Mapped.{mapped_path}
@@ -18,54 +14,21 @@ use Rattle.plain_tree.specs.Order.{path_cmp}
 use Rattle.plain_tree.specs.declared.name_map.NameMap.{NameMap}
 use Rattle.mapped_trees.specs.Trees.{IsMappedItem}
 use Rattle.vault_spec.specs.Opened.{OpenedVault}
-use Rattle.vault_spec.specs.Alike.{IsOrderly, place_of}
-use Rattle.vault_spec.specs.Find.{enter}
-use Rattle.vault_spec.specs.Format.{Directory, Format}
+use Rattle.vault_spec.specs.Format.{Directory}
 use Rattle.vault_spec.specs.Opens as opens
-use Rattle.vault_spec.specs.Opens.{NoItem, opened, opened_by, opened_file, tree}
-use Rattle.vault_spec.specs.Plan.{Planned, StandsBelow}
+use Rattle.vault_spec.specs.Opens.{NoItem}
+use Rattle.vault_spec.specs.Plan.{Planned}
 use Rattle.vault_spec.specs.Reached.{Leads}
-use Rattle.vault_spec.specs.Standing.{Absent, Dir, File, Standing, Strange, standing}
 use Rattle.vault_spec.specs.Vault.{format_of}
-use Rattle.vault_spec.specs.declared.Lack.{Lack}
 use Rattle.vault_walk.specs.Survey.{IsOrdered}
 use Rattle.migrate_core.proofs.Endings.{root_directory}
-use Rattle.migrate_core.proofs.Fronts.{StandBelow, directory_above}
+use Rattle.migrate_core.proofs.Fronts.{directory_above}
+use Rattle.vault_walk.proofs.OpenDirectories.{EnteredLeads, leads_to}
+use Rattle.vault_walk.proofs.Walks.{StandBelow}
 use Rattle.migrate_core.proofs.MappedItems.{ComesFrom, MappedParts, TellsMapped, comes_from, item_at, mapped_parts, opens_from}
 use Rattle.migrate_core.specs.Copying.{Enters, HasCopied}
 use Rattle.migration_spec.specs.Guard.{tree_at}
 use Rattle.migrate_core.proofs.Searched.{paths_total}
-
--- ---- a directory that opens in an orderly vault
-
-abbrev pub EnteredLeads : Type 0
-EnteredLeads = (f : Format) (v : View) (path : plain.Path) (dir : Directory) → (enter f v path ≡ Ok dir) ↔ Leads f v path dir
-
-no_directory : (keys : Keys) (bytes : Option (List ℕ)) → opened_file keys bytes ≢ opens.Directory
-no_directory keys None e = cc e
-no_directory keys (Some bytes) e = by (readable keys bytes).chunks (readable keys bytes).ending e
-  where
-    by : (chunks : List (List ℕ)) (ending : Ending) → opened_by chunks ending ≢ opens.Directory
-    by chunks Whole e = cc e
-    by chunks (Faulty fault) e = cc e
-    by chunks Wanting e = cc e
-
-never_locked : StandBelow → (f : Format) (v : View) → IsOrderly f v → (path : plain.Path) (at : folder.Path) (lack : Lack) → standing f v path ≢ Dir at (Err lack)
-never_locked below f v orderly [] at lack is = let e : Dir [] (Ok orderly.top) ≡ Dir at (Err lack) = sym orderly.root ∙ is in cc e
-never_locked below f v orderly (name ∷ rest) at lack is =
-    let up : StandsBelow f v (name ∷ rest) = below f v (name ∷ rest) at (λ e. cc e) (ap place_of is) in
-    orderly.entered up.front up.dir up.name at lack up.leads (up.stands ∙ is)
-
-pub leads_to : StandBelow → (f : Format) (v : View) → IsOrderly f v → (path : plain.Path) → tree f v path ≡ opens.Directory → (dir : Directory) × Leads f v path dir
-unfolding opened
-leads_to below f v orderly path is = by (standing f v path) refl is
-  where
-    by : (s : Standing) → standing f v path ≡ s → opens.opened_at f v s ≡ opens.Directory → (dir : Directory) × Leads f v path dir
-    by Absent e o = cc o
-    by (Strange at) e o = cc o
-    by (File at) e o = absurd (no_directory f.content _ o)
-    by (Dir at (Ok dir)) e o = (dir, record { at = at; stands = e })
-    by (Dir at (Err lack)) e o = absurd (never_locked below f v orderly path at lack e)
 
 -- ---- the directory of the next item
 

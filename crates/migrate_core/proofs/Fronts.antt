@@ -18,10 +18,7 @@ use Rattle.vault_spec.specs.Plan.{Planned, StandsBelow}
 use Rattle.vault_spec.specs.Standing.{Standing, Absent, Strange, File, Dir, standing}
 use Rattle.vault_spec.specs.Vault.{format_of}
 use Rattle.migrate_core.specs.Sides.{AllowsEachMapped}
-
--- what stands at a path stands below a directory
-abbrev pub StandBelow : Type 0
-StandBelow = (f : Format) (v : View) (path : plain.Path) (at : folder.Path) → path ≢ [] → place_of (standing f v path) ≡ Some at → StandsBelow f v path
+use Rattle.vault_walk.proofs.Walks.{StandBelow}
 
 -- an item has a place
 placed : (f : Format) (v : View) (path : plain.Path) → tree f v path ≢ NoItem → (at : folder.Path) × (place_of (standing f v path) ≡ Some at)

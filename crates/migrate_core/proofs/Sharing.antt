@@ -46,12 +46,13 @@ use Rattle.migrate_core.proofs.Compared.{planned_at}
 use Rattle.tree_match.proofs.Passing.{TellsTree}
 use Rattle.migrate_core.proofs.Copyings.{copied_as}
 use Rattle.migrate_core.proofs.Endings.{root_directory}
-use Rattle.migrate_core.proofs.Entered.{EnteredLeads}
+use Rattle.vault_walk.proofs.OpenDirectories.{EnteredLeads}
 use Rattle.migrate_core.proofs.Searched.{paths_total}
 use Rattle.migrate_core.proofs.MappedItems.{ComesFrom, TellsMapped, comes_from}
 use Rattle.migrate_core.proofs.Placings.{made_moves}
 use Rattle.migrate_core.proofs.Stopping.{Stays}
-use Rattle.migrate_core.proofs.Within.{StandBehind, content_opens}
+use Rattle.vault_walk.proofs.Walks.{StandBehind}
+use Rattle.vault_spec.proofs.Endings.{content_opens}
 use Rattle.migrate_core.specs.Causes.{IsStop, StopsLater, nothing_stops}
 use Rattle.migrate_core.specs.Copying.{Copies, HasCopied, MayBegin}
 use Rattle.migration_spec.specs.Guard.{tree_at}

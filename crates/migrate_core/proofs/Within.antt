@@ -1,9 +1,6 @@
 -- A vault of which the items are some of another's, at their mapped paths, passes no limit that the other doesn't.
 use Rattle.std.proofs.Common.{◌≡◌, ◌≢◌, ◌<◌, ℕ, zero, suc, List, [], ◌∷◌, ◌++◌, length, get_or, Contains, Some, refl, sym, ap, ◌∙◌, subst, arith}
 use Rattle.std.proofs.lemmas.List.Elements.{Contains-get_or}
-use Rattle.chunk_files.specs.Contents.{readable}
-use Rattle.chunk_files.specs.Keys.{Keys}
-use Rattle.chunk_files.specs.Reading.{Ending, Faulty, Wanting, Whole}
 use Rattle.folder_spec.proofs.Paths.{child-injective, child-last, child-not_base}
 use Rattle.folder_spec.specs.Seen.{ShowsFile}
 use Rattle.folder_spec.specs.View.{View}
@@ -17,31 +14,20 @@ use Rattle.vault_spec.specs.Alike.{IsOrderly}
 use Rattle.vault_spec.specs.Format.{Directory, Format, file_bytes}
 use Rattle.vault_spec.specs.Listing.{node_of}
 use Rattle.vault_spec.specs.Opens as opens
-use Rattle.vault_spec.specs.Opens.{NoItem, opened, opened_by, opened_file, tree}
+use Rattle.vault_spec.specs.Opens.{NoItem, opened, opened_file, tree}
 use Rattle.vault_spec.specs.Plan.{Planned, StandsBelow}
 use Rattle.vault_spec.specs.Reached.{IsReachedIn, Leads}
 use Rattle.vault_spec.specs.Standing.{Absent, Dir, File, Standing, Strange, standing, standing_in}
 use Rattle.vault_spec.specs.Vault.{Vault, format_of}
 use Rattle.vault_walk.specs.Survey.{HasTooMany, IsItem, IsNear, IsPathOf, IsTooDeep, depth_limit, item_limit}
 use Rattle.vault_walk.specs.Surveyed.{IsWithin}
-use Rattle.migrate_core.proofs.Fronts.{StandBelow, stands_in}
+use Rattle.migrate_core.proofs.Fronts.{stands_in}
+use Rattle.vault_walk.proofs.Walks.{StandBehind, StandBelow}
 use Rattle.migrate_core.proofs.MappedItems.{MappedParts, mapped_parts, mapped_size}
-use Rattle.vault_spec.proofs.Endings.{whole_ends}
+use Rattle.vault_spec.proofs.Endings.{content_opens}
 use Rattle.tree_match.proofs.HeldTrees.{FilesAreThere}
 
--- what stands in a directory stands behind the path to it
-abbrev pub StandBehind : Type 0
-StandBehind = (f : Format) (v : View) (front : plain.Path) (dir : Directory) (name : List ℕ) → Leads f v front dir → standing f v (front ++ name ∷ []) ≡ standing_in f v dir name
-
 -- ---- what stands opens
-
-pub content_opens : (keys : Keys) (bytes : List ℕ) → opened_file keys (Some bytes) ≢ NoItem
-content_opens keys bytes = by (readable keys bytes).ending (whole_ends keys bytes)
-  where
-    by : (ending : Ending) → ending ≢ Wanting → opened_by (readable keys bytes).chunks ending ≢ NoItem
-    by Whole some = λ e. cc e
-    by (Faulty fault) some = λ e. cc e
-    by Wanting some = absurd (some refl)
 
 item_opens : StandBehind → FilesAreThere → (vault : Vault) (v : View) (front : plain.Path) (dir : Directory) (name : List ℕ) (kind : NodeKind) → Leads (format_of vault) v front dir
     → node_of (standing_in (format_of vault) v dir name) ≡ Some kind → tree (format_of vault) v (front ++ name ∷ []) ≢ NoItem

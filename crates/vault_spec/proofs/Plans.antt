@@ -1,8 +1,5 @@
 -- A plan is the tree, and what stands is found by going through directories step by step.
 use Rattle.std.proofs.Common.{◌≡◌, ◌≢◌, ◌⊎◌, ◌↔◌, ◌<◌, ℕ, suc, ◌+◌, Bool, true, false, List, [], ◌∷◌, ◌++◌, Ok, refl, sym, ap, ◌∙◌, inl, inr, subst, Some, length, length-append, arith, Contains, is_some}
-use Rattle.chunk_files.specs.Contents.{readable}
-use Rattle.chunk_files.specs.Keys.{Keys}
-use Rattle.chunk_files.specs.Reading.{Ending, Whole, Wanting, Faulty}
 use Rattle.folder_spec.specs.Path.{Path, child}
 use Rattle.folder_spec.specs.View.{View}
 use Rattle.folder_spec.proofs.Paths.{base_or_child}
@@ -17,25 +14,16 @@ use Rattle.vault_spec.specs.Findings.{IsFileAt}
 use Rattle.vault_spec.specs.Format.{Format, Directory, FileItem, file_bytes}
 use Rattle.vault_spec.specs.Listing.{Listed, AreListed, node_of}
 use Rattle.vault_spec.specs.Opens as opens
-use Rattle.vault_spec.specs.Opens.{opened, opened_at, opened_by, opened_file, tree, AreItems}
+use Rattle.vault_spec.specs.Opens.{opened, opened_at, opened_file, tree, AreItems}
 use Rattle.vault_spec.specs.Plan.{Planned, IsPlanned, IsPlan, paths_of, StandsBelow, IsReachedFrom}
 use Rattle.vault_spec.specs.Reached.{Leads, IsReachedIn}
 use Rattle.vault_spec.specs.Standing.{Standing, Absent, Strange, File, Dir, root_of, standing_in, standing, item_at, entry_at, holds_full}
 use Rattle.vault_spec.proofs.Clean.{IsChild, is_child}
-use Rattle.vault_spec.proofs.Endings.{whole_ends}
+use Rattle.vault_spec.proofs.Endings.{content_opens}
 use Rattle.vault_spec.proofs.Grafts.{standing_named, standing_unnamed, content_there}
 use Rattle.vault_spec.proofs.Mapped.{contains_mapped, mapped_from, all_pairs_mapped}
 use Rattle.vault_spec.proofs.OwnPlaces.{StandsUnder, stands_under}
 use Rattle.vault_spec.proofs.Steps.{along}
-
--- the bytes of a content open
-content_opens : (keys : Keys) (bytes : List ℕ) → opened_file keys (Some bytes) ≢ opens.NoItem
-content_opens keys bytes = by_ending (readable keys bytes).ending (whole_ends keys bytes)
-  where
-    by_ending : (ending : Ending) → ending ≢ Wanting → opened_by (readable keys bytes).chunks ending ≢ opens.NoItem
-    by_ending Whole some = λ e. cc
-    by_ending (Faulty fault) some = λ e. cc
-    by_ending Wanting some = absurd (some refl)
 
 -- contents that stand are there
 abbrev pub HasContents : Format → View → Type 0

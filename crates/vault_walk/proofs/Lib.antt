@@ -1,7 +1,8 @@
 mod Heres
 mod Items
 pub mod InOrder
-mod Walks
+pub mod Walks
+pub mod OpenDirectories
 mod Growing
 mod Gathered
 mod Depths

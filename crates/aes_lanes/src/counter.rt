@@ -3,7 +3,7 @@
 ghost use Rattle.std.specs.Prelude.{◌≡◌, ℕ, ◌+◌, ◌*◌, ◌<◌, ◌≤◌, List, [], get_or, length};
 ghost use Rattle.std.specs.Fn.{iterate};
 ghost use Rattle.aes_lanes.specs.Cipher.{cipher};
-ghost use Rattle.aes_lanes.specs.Counter.{counter_mode, ctr128, ctr32, increment128, increment32};
+ghost use Rattle.aes_lanes.specs.Counter.{counter_mode, ctr128, ctr32, increment128};
 ghost use Rattle.aes_lanes.specs.PlaneList.{AreRoundKeys};
 ghost use Rattle.aes_lanes.specs.RoundKeys.{AreKeyBlocks};
 
@@ -12,20 +12,7 @@ use crate::cipher::Cipher;
 use crate::counter_planes::counted32;
 use crate::plane_rounds::counter_images;
 use crate::planes::Planes;
-use crate::rounds::encrypt_rest;
-
-// The first of sixteen counter blocks from `counter` on, where the last four bytes count.
-fn next32(counter: &Block, count: u32) -> [Block; 16]
-    requires { count ≤ 16 }
-    ensures sixteen { length result ≡ 16 }
-    ensures counts { (i : ℕ) → i < count → get_or result i [] ≡ iterate increment32 i counter.now }
-{
-    let mut blocks = [[0; 16]; 16];
-    for i in 0..count {
-        blocks[i as usize] = counted32(counter, i);
-    }
-    blocks
-}
+use crate::rounds::encrypt_block;
 
 fn increment128(block: &mut Block)
     ensures { block.new ≡ increment128 block.old }
@@ -59,6 +46,23 @@ fn xor_stream(stream: &[Block; 16], bytes: &mut [u8])
     }
 }
 
+// Counter mode on a few blocks, one after the other, where the last four bytes count, under round keys as blocks.
+fn few32_xor(keys: &[Block], rounds: usize, start: &Block, bytes: &mut [u8])
+    requires some { 0 < rounds }
+    requires keys { length keys.now ≡ rounds + 1 }
+    requires few { length bytes.old ≤ 256 }
+    ensures { (words : List ℕ) → AreKeyBlocks words keys.now → bytes.new ≡ ctr32 (cipher rounds words) start.now bytes.old }
+{
+    for k in 0..bytes.len().div_ceil(16) {
+        let mut block = counted32(start, k as u32);
+        encrypt_block(keys, rounds, &mut block);
+        xor_at(bytes, 16 * k, &block);
+    }
+}
+
+// Up to so many counter blocks take less time one after the other than sixteen at once.
+const FEW: usize = 3;
+
 // Counter mode on at most sixteen blocks, where the last four bytes count, under round keys as blocks and as planes.
 fn last32_xor(keys: &[Block], planes: &[Planes], rounds: usize, start: &Block, bytes: &mut [u8])
     requires some { 0 < rounds }
@@ -68,10 +72,11 @@ fn last32_xor(keys: &[Block], planes: &[Planes], rounds: usize, start: &Block, b
     ensures { (words : List ℕ) → AreKeyBlocks words keys.now → AreRoundKeys words planes.now
         → bytes.new ≡ ctr32 (cipher rounds words) start.now bytes.old }
 {
-    let count = bytes.len().div_ceil(16);
-    let mut stream = next32(start, count as u32);
-    encrypt_rest(keys, planes, rounds, &mut stream[..count]);
-    xor_stream(&stream, bytes);
+    if bytes.len() <= 16 * FEW {
+        few32_xor(keys, rounds, start, bytes);
+    } else {
+        xor_stream(&counter_images(planes, rounds, start), bytes);
+    }
 }
 
 // Counter mode on at most sixteen blocks, where all bytes count.

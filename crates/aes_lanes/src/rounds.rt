@@ -76,8 +76,8 @@ fn unmixed(v: u8x16) -> u8x16
     mixed(v ^ quadrupled(v ^ far))
 }
 
-// Replaces a block by its image in so many rounds, under round keys as blocks.
-fn encrypt_block(keys: &[Block], rounds: usize, block: &mut Block)
+/// Replaces a block by its image in so many rounds, under round keys as blocks.
+pub(crate) fn encrypt_block(keys: &[Block], rounds: usize, block: &mut Block)
     requires some { 0 < rounds }
     requires keys { length keys.now ≡ rounds + 1 }
     ensures { (words : List ℕ) → AreKeyBlocks words keys.now → block.new ≡ cipher rounds words block.old }
@@ -131,8 +131,8 @@ fn decrypt_singly(keys: &[Block], rounds: usize, blocks: &mut [Block])
 // Up to so many blocks take less time one after the other than at once.
 const FEW: usize = 6;
 
-/// Replaces at most sixteen blocks by their images in so many rounds, under round keys as blocks and as planes.
-pub(crate) fn encrypt_rest(keys: &[Block], planes: &[Planes], rounds: usize, blocks: &mut [Block])
+// Replaces at most sixteen blocks by their images in so many rounds, under round keys as blocks and as planes.
+fn encrypt_rest(keys: &[Block], planes: &[Planes], rounds: usize, blocks: &mut [Block])
     requires some { 0 < rounds }
     requires keys { length keys.now ≡ rounds + 1 }
     requires planes { length planes.now ≡ rounds + 1 }

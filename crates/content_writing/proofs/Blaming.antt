@@ -1,13 +1,12 @@
 -- What is blamed where writing a content ends early.
-use Rattle.std.proofs.Common.{◌≡◌, ◌≢◌, ◌≤◌, ℕ, List, Option, Result, Ok, Err, IsErrAnd, sym, subst, arith}
+use Rattle.std.proofs.Common.{◌≡◌, ◌≢◌, ◌≤◌, ℕ, List, Result, Ok, Err, IsErrAnd, sym, subst, arith}
 use Rattle.chunk_files.specs.Keys.{Keys}
 use Rattle.folder_model.proofs.Counting.{rose_since}
 use Rattle.folder_model.specs.Answers.{CountsAbove}
 use Rattle.folder_spec.specs.declared.FolderFault.{FolderFault}
 use Rattle.folder_spec.specs.declared.FolderFault.TheVariants as folder
-use Rattle.content_writing.specs.Content.{Coming}
 use Rattle.content_writing.specs.Faults.{of_folder}
-use Rattle.content_writing.specs.Streaming.{EndsGathering, FailsToStore, Gathers}
+use Rattle.content_writing.specs.Streaming.{FailsToStore}
 use Rattle.content_writing.specs.Writing.{Blames}
 use Rattle.content_writing.specs.declared.fault.PutFault.{PutFault}
 use Rattle.content_writing.specs.declared.fault.PutFault.TheVariants as puts
@@ -19,10 +18,6 @@ blames_at (Ok value) fault blamed old new by_fault blames = absurd by_fault
 blames_at {T} (Err e) fault blamed old new by_fault blames = subst (λ x. Blames {T = T} (Err x) blamed old new) (sym by_fault) blames
 
 -- ---- what a fault is of
-
--- gathering draws nothing
-pub gathers_undrawn : (full : ℕ) (gathered : List ℕ) (coming left : Option Coming) (why : PutFault) → Gathers full gathered coming left (Err why) → why ≢ puts.Random
-gathers_undrawn full gathered coming left why gathers random = subst (λ f. EndsGathering full gathered coming left (Err f)) random gathers.ends
 
 -- storing reads no source
 pub stores_unread : (keys : Keys) (drawn : List ℕ) (why : PutFault) → FailsToStore keys drawn why → why ≢ puts.Source

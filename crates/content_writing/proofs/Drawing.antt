@@ -104,13 +104,6 @@ module _ (law : MadeIsAFront) (e : Encoding) (drawn content file : List ℕ) (ma
     front = law e drawn extra content rest file made (has_bytes f (content ++ rest) (omega (arith, length-append content rest, some)));
   }
 
-  -- made so far, where only a header was drawn
-  pub header_made : (rest : List ℕ) → e.number ≡ 0 → has_no_bytes f (content ++ rest) ≡ false → IsMadeFor e.keys drawn (content ++ rest) file
-  header_made rest first some = record {
-    enough = header_enough f drawn (content ++ rest) some (let none : f.nonce_size * e.number ≡ 0 = rw first (omega arith) in omega (arith, made.drawn_so_far, none));
-    front = subst (λ (d : List ℕ). IsFrontOf file (encrypt e.keys d (content ++ rest))) (append-nil drawn) (law e drawn [] content rest file made some);
-  }
-
 -- The next chunk: what is made then.
 module _ (law : MadeIsAFront) (e e' : Encoding) (chunk stored : List ℕ) (goes_on : GoesOn e e' chunk stored) (next : e' ≡ one_chunk_later e) (some : 0 < length chunk) where
   abbrev nonce : List ℕ

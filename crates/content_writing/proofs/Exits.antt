@@ -1,9 +1,9 @@
 -- What is said where writing a content ends early.
-use Rattle.std.proofs.Common.{◌≡◌, ◌≢◌, ◌+◌, ◌*◌, ℕ, true, List, [], ◌∷◌, ◌++◌, length, replicate, Option, Result, Err, refl, sym, ap, ◌∙◌, subst, arith, length-append}
+use Rattle.std.proofs.Common.{◌≡◌, ◌≢◌, ℕ, List, [], ◌∷◌, ◌++◌, Option, Result, Err, refl, sym, subst, arith}
 use Rattle.port_model.specs.Draws.{ByteStream, Draws}
 use Rattle.chunk_files.specs.Encoding.{IsFrontOf}
 use Rattle.chunk_files.specs.Encrypt.{encrypt}
-use Rattle.chunk_files.specs.Keys.{Keys, format_of}
+use Rattle.chunk_files.specs.Keys.{Keys}
 use Rattle.folder_spec.specs.declared.FolderFault.{FolderFault}
 use Rattle.folder_spec.specs.declared.FolderFault.TheVariants as folder
 use Rattle.folder_spec.specs.Path.{Path}
@@ -12,8 +12,8 @@ use Rattle.folder_spec.specs.Written.{IsFrontOfOne}
 use Rattle.content_writing.specs.Content.{Coming, Ending, Whole, Damaged, TooLong, Gave, HasEnded}
 use Rattle.content_writing.specs.Faults.{of_folder}
 use Rattle.content_writing.specs.Streaming.{EndsGathering, FailsToStore, IsMadeFor, Start, StagesFront, WereAccepted}
-use Rattle.content_writing.specs.Writing.{EndsBy, WritesContent, sixteen}
-use Rattle.content_writing.proofs.Sixteens.{behind_whole, no_zeros}
+use Rattle.content_writing.specs.Writing.{EndsBy, WritesContent}
+use Rattle.content_writing.proofs.Sixteens.{no_zeros}
 use Rattle.content_writing.specs.declared.fault.PutFault.{PutFault}
 use Rattle.content_writing.specs.declared.fault.PutFault.TheVariants as puts
 use Rattle.content_writing.proofs.Comings.{all_of, rest_of, all_is, ending_is, all_told, ended_on}
@@ -55,21 +55,17 @@ module _ (w : Start) (given : List ℕ) (left : Option Coming) (gave : Gave give
 -- ---- how each fault ends it
 
 module _ (keys : Keys) (at : Path) (drawn content : List ℕ) (ending : Ending) (coming left : Option Coming) (before after : Option Told) where
-  pub ends_storing : (front last : List ℕ) (fault : PutFault) → drawn ≡ front ++ last → ((format_of keys).refuses_zeros ≡ true → (number : ℕ) × (length front ≡ 16 * number)) → FailsToStore keys last fault → EndsBy keys at drawn content ending coming left before after (Err fault)
-  ends_storing front last puts.ZeroRandom is whole h =
-      let before = whole h.0 in
-      let same : drawn ≡ front ++ replicate 16 0 = is ∙ ap (λ (x : List ℕ). front ++ x) h.1 in
-      let size : length drawn ≡ length front + 16 = ap length same ∙ length-append front (replicate 16 0) in
-      (before.0, record { refused = h.0; zeros = ap (sixteen before.0) same ∙ behind_whole before.0 front (replicate 16 0) before.1 }, omega (arith, size, before.1))
-  ends_storing front last puts.Random is whole h = tt
-  ends_storing front last puts.Failed is whole h = tt
-  ends_storing front last puts.NoMemory is whole h = tt
-  ends_storing front last puts.Source is whole h = absurd h
-  ends_storing front last (puts.Damaged p f) is whole h = absurd h
-  ends_storing front last (puts.Limit l) is whole h = absurd h
-  ends_storing front last (puts.Find f) is whole h = absurd h
-  ends_storing front last (puts.NotAllowed p) is whole h = absurd h
-  ends_storing front last (puts.Taken p) is whole h = absurd h
+  pub ends_storing : (fault : PutFault) → FailsToStore keys drawn fault → EndsBy keys at drawn content ending coming left before after (Err fault)
+  ends_storing puts.ZeroRandom h = h
+  ends_storing puts.Random h = tt
+  ends_storing puts.Failed h = tt
+  ends_storing puts.NoMemory h = tt
+  ends_storing puts.Source h = absurd h
+  ends_storing (puts.Damaged p f) h = absurd h
+  ends_storing (puts.Limit l) h = absurd h
+  ends_storing (puts.Find f) h = absurd h
+  ends_storing (puts.NotAllowed p) h = absurd h
+  ends_storing (puts.Taken p) h = absurd h
 
   pub ends_folder : (fault : FolderFault) → EndsBy keys at drawn content ending coming left before after (Err (of_folder fault))
   ends_folder folder.Failed = tt

@@ -1,6 +1,6 @@
 -- The bytes drawn, sixteen by sixteen, and where they are zeros.
 use Rattle.std.specs.List.{All}
-use Rattle.std.proofs.Common.{◌≡◌, ℕ, zero, suc, ◌+◌, ◌*◌, ◌≤◌, true, false, List, [], ◌∷◌, ◌++◌, length, take, drop, replicate, refl, sym, ap, ◌∙◌, subst, arith, length-drop}
+use Rattle.std.proofs.Common.{◌≡◌, ℕ, zero, suc, ◌+◌, ◌*◌, ◌≤◌, true, false, List, [], ◌∷◌, ◌++◌, length, take, drop, replicate, refl, sym, ap, ◌∙◌, subst, arith, length-append, length-drop}
 use Rattle.std.proofs.lemmas.List.{drop-append-le, length-take}
 use Rattle.chunk_files.specs.Contents.{is_refused}
 use Rattle.chunk_files.specs.Encoding.{Encoding, HasMade}
@@ -10,14 +10,19 @@ use Rattle.chunk_files.specs.Keys.{Keys, format_of}
 use Rattle.chunk_files.specs.Pieces.{first_pieces, pieces}
 use Rattle.content_writing.proofs.Drawing.{sixteen_drawn}
 use Rattle.content_writing.specs.Streaming.{WereAccepted}
-use Rattle.content_writing.specs.Writing.{DrewNoZeros, sixteen}
+use Rattle.content_writing.specs.Writing.{DrewNoZeros, DrewZeros, sixteen}
 
 -- behind whole pieces of sixteen
-pub behind_whole : (number : ℕ) (front bytes : List ℕ) → length front ≡ 16 * number → sixteen number (front ++ bytes) ≡ take 16 bytes
+behind_whole : (number : ℕ) (front bytes : List ℕ) → length front ≡ 16 * number → sixteen number (front ++ bytes) ≡ take 16 bytes
 behind_whole zero [] bytes size = refl
 behind_whole zero (b ∷ front) bytes size = absurd (omega (arith, size))
 behind_whole (suc number) front bytes size =
     ap (sixteen number) (drop-append-le 16 front bytes (omega (arith, size))) ∙ behind_whole number (drop 16 front) bytes (omega (arith, size, length-drop 16 front))
+
+-- sixteen zeros that were drawn last, where these are refused
+pub zeros_behind : (keys : Keys) (front : List ℕ) → (format_of keys).refuses_zeros ≡ true → (number : ℕ) × (length front ≡ 16 * number) → DrewZeros keys (front ++ replicate 16 0)
+zeros_behind keys front refuses (number, size) =
+    (number, record { refused = refuses; zeros = behind_whole number front (replicate 16 0) size }, omega (arith, length-append front (replicate 16 0), size))
 
 -- sixteen bytes are those of a number only where so many were drawn
 pub drawn_so_far : (number : ℕ) (drawn : List ℕ) → sixteen number drawn ≡ replicate 16 0 → 16 * suc number ≤ length drawn

@@ -1,6 +1,8 @@
 -- Words of private contracts: how far the writing of a content has come.
-use Rattle.std.specs.Prelude.{◌≡◌, ◌≢◌, ◌≤◌, ◌<◌, ℕ, ◌==◌, ◌⊎◌, Bool, true, false, List, [], ◌++◌, length, replicate, Option, Result, Ok, Err, OnOk}
+use Rattle.std.specs.Prelude.{◌≡◌, ◌≢◌, ◌≤◌, ◌<◌, ℕ, ◌⊎◌, List, [], ◌++◌, length, Option, Result, Ok, Err, OnOk}
 use Rattle.port_model.specs.Draws.{ByteStream, Draws}
+use Rattle.chunk_files.specs.declared.fault.EncodeFault.{EncodeFault}
+use Rattle.chunk_files.specs.declared.fault.EncodeFault.TheVariants as encodes
 use Rattle.chunk_files.specs.Encoding.{Encoding, HasMade, IsFrontOf}
 use Rattle.chunk_files.specs.Encrypt.{AreAccepted, IsEncrypted, draws, encrypt}
 use Rattle.chunk_files.specs.Keys.{Keys, format_of}
@@ -9,6 +11,8 @@ use Rattle.folder_spec.specs.Event.{Told}
 use Rattle.folder_spec.specs.Written.{IsFrontOfOne}
 use Rattle.folder_staging.specs.Pieces.{IsWriting, Stages}
 use Rattle.content_writing.specs.Content.{Coming, Whole, Damaged, TooLong, Gave, HasEnded}
+use Rattle.content_writing.specs.Faults.{of_encoding}
+use Rattle.content_writing.specs.Writing.{DrewZeros}
 use Rattle.content_writing.specs.declared.fault.PutFault.{PutFault}
 use Rattle.content_writing.specs.declared.fault.PutFault.TheVariants as puts
 
@@ -52,9 +56,9 @@ IsStaged at made before now = (files : List (List ℕ)) → IsFrontOfOne files m
 abbrev pub WereAccepted : Keys → List ℕ → Type 0
 WereAccepted keys drawn = (format_of keys).header_draw ≤ length drawn → AreAccepted (format_of keys) drawn
 
--- why a header or a chunk wasn't stored: sixteen zero bytes were drawn, where these are refused; or an object failed
+-- Why a header or a chunk wasn't stored: the bytes drawn last are sixteen zeros, where these are refused; or an object failed.
 abbrev pub FailsToStore : Keys → List ℕ → PutFault → Type 0
-FailsToStore keys drawn puts.ZeroRandom = ((format_of keys).refuses_zeros ≡ true) × (drawn ≡ replicate 16 0)
+FailsToStore keys drawn puts.ZeroRandom = DrewZeros keys drawn
 FailsToStore keys drawn puts.Random = Unit {0}
 FailsToStore keys drawn puts.Failed = Unit {0}
 FailsToStore keys drawn puts.NoMemory = Unit {0}
@@ -65,31 +69,42 @@ FailsToStore keys drawn (puts.Find fault) = ⊥
 FailsToStore keys drawn (puts.NotAllowed path) = ⊥
 FailsToStore keys drawn (puts.Taken at) = ⊥
 
--- a file was begun, whole if its content is empty
-pub record HasBegunFile (keys : Keys) (empty : Bool) (at : Path) (drawn made : List ℕ) (before after : Option Told) (e : Encoding) : Type 0 where
-  pub same_keys : e.keys ≡ keys
-  pub first : e.number ≡ 0
-  pub staged : IsStaged at made before after
-  pub whole : empty ≡ true → IsEncrypted keys drawn [] made
-  pub goes_on : empty ≡ false → HasMade e drawn [] made
-
-abbrev pub BeginsBy : Keys → Bool → Path → List ℕ → List ℕ → Option Told → Option Told → Encoding → Result (Unit {0}) PutFault → Type 0
-BeginsBy keys empty at drawn made before after e (Ok _) = HasBegunFile keys empty at drawn made before after e
-BeginsBy keys empty at drawn made before after e (Err fault) = FailsToStore keys drawn fault
-
--- A call begins the file of a content, of which it knows whether that is empty.
-pub record BeginsContent (keys : Keys) (empty : Bool) (at : Path) (stream stream' : Option ByteStream) (before after : Option Told) (e : Encoding) (result : Result (Unit {0}) PutFault) : Type 0 where
-  pub drawn : List ℕ
-  pub made : List ℕ
-  pub were_drawn : Draws stream stream' drawn
-  pub fits : (content : List ℕ) → (length content == 0) ≡ empty → IsMadeFor keys drawn content made
-  pub accepted : result ≢ Err puts.ZeroRandom → WereAccepted keys drawn
-  pub stages : StagesFront at made before after
-  pub ends : BeginsBy keys empty at drawn made before after e result
-
 -- The chunk is the last one, or full, where more may follow.
 abbrev pub IsNextChunk : Keys → List ℕ → List ℕ → Type 0
 IsNextChunk keys chunk rest = (length chunk ≡ (format_of keys).full_size) ⊎ (rest ≡ [])
+
+-- these bytes are the file of a content of one chunk or of none; where that is full, more may follow
+pub record IsFront (keys : Keys) (chunk drawn made : List ℕ) (e : Encoding) : Type 0 where
+  pub same_keys : e.keys ≡ keys
+  pub few : e.number ≤ length chunk
+  pub whole : IsEncrypted keys drawn chunk made
+  pub goes_on : length chunk ≡ (format_of keys).full_size → HasMade e drawn chunk made
+
+abbrev pub FrontBy : Keys → List ℕ → List ℕ → List ℕ → Encoding → Result (Unit {0}) EncodeFault → Type 0
+FrontBy keys chunk drawn made e (Ok _) = IsFront keys chunk drawn made e
+FrontBy keys chunk drawn made e (Err fault) = FailsToStore keys drawn (of_encoding fault)
+
+-- A call makes the header of a content's file and the first chunk, if the content has bytes.
+pub record MakesFront (keys : Keys) (chunk : List ℕ) (stream stream' : Option ByteStream) (e : Encoding) (made : List ℕ) (result : Result (Unit {0}) EncodeFault) : Type 0 where
+  pub drawn : List ℕ
+  pub were_drawn : Draws stream stream' drawn
+  pub fits : (rest : List ℕ) → IsNextChunk keys chunk rest → IsMadeFor keys drawn (chunk ++ rest) made
+  pub accepted : result ≢ Err encodes.ZeroRandom → WereAccepted keys drawn
+  pub ends : FrontBy keys chunk drawn made e result
+
+abbrev pub BeginsBy : Keys → List ℕ → Path → List ℕ → List ℕ → Option Told → Option Told → Encoding → Result (Unit {0}) PutFault → Type 0
+BeginsBy keys chunk at drawn made before after e (Ok _) = IsFront keys chunk drawn made e × IsStaged at made before after
+BeginsBy keys chunk at drawn made before after e (Err fault) = FailsToStore keys drawn fault
+
+-- A call begins the file of a content with its header and its first chunk, if it has bytes.
+pub record BeginsContent (keys : Keys) (chunk : List ℕ) (at : Path) (stream stream' : Option ByteStream) (before after : Option Told) (e : Encoding) (result : Result (Unit {0}) PutFault) : Type 0 where
+  pub drawn : List ℕ
+  pub made : List ℕ
+  pub were_drawn : Draws stream stream' drawn
+  pub fits : (rest : List ℕ) → IsNextChunk keys chunk rest → IsMadeFor keys drawn (chunk ++ rest) made
+  pub accepted : result ≢ Err puts.ZeroRandom → WereAccepted keys drawn
+  pub stages : StagesFront at made before after
+  pub ends : BeginsBy keys chunk at drawn made before after e result
 
 -- what was made ends the file of the content with this chunk; where that is full, more may follow
 pub record GoesOnWith (e e' : Encoding) (chunk drawn piece : List ℕ) : Type 0 where
@@ -100,7 +115,7 @@ pub record GoesOnWith (e e' : Encoding) (chunk drawn piece : List ℕ) : Type 0 
 
 abbrev pub StoresBy : Encoding → Encoding → List ℕ → List ℕ → List ℕ → Result (Unit {0}) PutFault → Type 0
 StoresBy e e' chunk drawn piece (Ok _) = GoesOnWith e e' chunk drawn piece
-StoresBy e e' chunk drawn piece (Err fault) = FailsToStore e.keys drawn fault
+StoresBy e e' chunk drawn piece (Err fault) = (drawn0 content file : List ℕ) → HasMade e drawn0 content file → FailsToStore e.keys (drawn0 ++ drawn) fault
 
 -- A call stores the next chunk of a content.
 pub record StoresChunk (e e' : Encoding) (chunk : List ℕ) (at : Path) (stream stream' : Option ByteStream) (old new : Option Told) (result : Result (Unit {0}) PutFault) : Type 0 where
@@ -124,17 +139,18 @@ pub record Start : Type 0 where
   pub stream : Option ByteStream
   pub coming : Option Coming
 
--- So far the file of a front part of the content was made, of full chunks, and the next chunk was gathered. Where no bytes were,
--- the file is whole.
-pub record IsUnderway (w : Start) (e : Encoding) (gathered : List ℕ) (told : Option Told) (stream : Option ByteStream) (left : Option Coming) : Type 0 where
+-- So far a front part of the content was stored, of chunks of which this is the last. Where it is full, more may follow; else the
+-- content has ended.
+pub record IsUnderway (w : Start) (e : Encoding) (chunk : List ℕ) (told : Option Told) (stream : Option ByteStream) (left : Option Coming) : Type 0 where
   pub drawn : List ℕ
   pub content : List ℕ
   pub made : List ℕ
   pub same_keys : e.keys ≡ w.keys
   pub were_drawn : Draws w.stream stream drawn
-  pub gave : Gave (content ++ gathered) w.coming left
+  pub gave : Gave content w.coming left
+  pub fits : (rest : List ℕ) → IsNextChunk w.keys chunk rest → IsMadeFor w.keys drawn (content ++ rest) made
   pub staged : IsStaged w.at made w.told told
-  pub whole : gathered ≡ [] → IsEncrypted w.keys drawn content made
-  pub goes_on : 0 < length gathered → HasMade e drawn content made
-  pub size : length gathered ≤ (format_of w.keys).full_size
-  pub last : length gathered < (format_of w.keys).full_size → HasEnded Whole w.coming left
+  pub whole : IsEncrypted w.keys drawn content made
+  pub goes_on : length chunk ≡ (format_of w.keys).full_size → HasMade e drawn content made
+  pub size : length chunk ≤ (format_of w.keys).full_size
+  pub last : length chunk < (format_of w.keys).full_size → HasEnded Whole w.coming left

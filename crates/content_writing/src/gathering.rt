@@ -1,5 +1,5 @@
 //! Gathering the pieces of a content into chunks.
-ghost use Rattle.std.specs.Prelude.{◌≡◌, ◌≤◌, ◌<◌, ◌+◌, length, [], OnErr};
+ghost use Rattle.std.specs.Prelude.{◌≡◌, ◌≤◌, ◌+◌, length};
 ghost use Rattle.content_writing.specs.Content.{IsReady, still_coming};
 ghost use Rattle.content_writing.specs.Streaming.{Gathers};
 ghost use Rattle.content_writing.specs.Writing.{Blames};
@@ -9,36 +9,6 @@ use crate::fault::PutFault;
 use crate::gathered::Gathered;
 use chunk_files::ChunkBuf;
 use folder_model::Folder;
-
-// Gathers the first chunk of what is to come, or the next one behind a full chunk. None follows a shorter one.
-pub(crate) fn gather_next<F: Folder, C: Content<F>>(
-    folder: &mut F,
-    content: &mut C,
-    piece: &mut ChunkBuf,
-    plain: &mut Gathered,
-    full: usize,
-) -> Result<(), PutFault>
-    requires full { full ≤ 32768 }
-    requires ready { IsReady (C.reads content.old) (F.told folder.old) (C.coming content.old) }
-    ensures told { F.told folder.new ≡ F.told folder.old }
-    ensures reads { C.reads content.new ≡ C.reads content.old }
-    ensures ready { IsReady (C.reads content.new) (F.told folder.new) (C.coming content.new) }
-    ensures lender { C.lender content.new ≡ C.lender content.old }
-    ensures short { length plain.old < full → (plain.new ≡ []) × (content.new ≡ content.old) }
-    ensures gathered { full ≤ length plain.old
-        → Gathers full plain.new (still_coming (C.reads content.old) (F.told folder.old) (C.coming content.old)) (still_coming (C.reads content.old) (F.told folder.old) (C.coming content.new)) result }
-    ensures went_on { OnErr result (full ≤ length plain.old) }
-    ensures size { length plain.new ≤ full }
-    ensures room { length plain.new + C.room content.new ≤ C.room content.old }
-    ensures failed { Blames result PutFault.Failed (F.faults folder.old) (F.faults folder.new) }
-    ensures source { Blames result PutFault.Source (C.faults content.old) (C.faults content.new) }
-{
-    if plain.len() < full {
-        plain.clear();
-        return Ok(());
-    }
-    gather(folder, content, piece, plain, full)
-}
 
 // Gathers the next chunk of a content: fewer bytes than a full one has only at the end.
 pub(crate) fn gather<F: Folder, C: Content<F>>(

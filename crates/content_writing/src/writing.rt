@@ -7,7 +7,7 @@ ghost use Rattle.content_writing.specs.Writing.{Blames, ReadsApart, WritesConten
 use crate::content::Content;
 use crate::fault::PutFault;
 use crate::gathered::Gathered;
-use crate::gathering::{gather, gather_next};
+use crate::gathering::gather;
 use crate::storing::{begin_content, store_chunk};
 use chunk_files::{ChunkBuf, ContentKeys, Encoder};
 use folder_model::{FPath, Folder};
@@ -17,17 +17,17 @@ use port_model::Randoms;
 use port_model::laws::draws_compose;
 use std::alloc::{AllocError, Global};
 
-/// What writing contents takes: an encoder, and room for a piece of a content, for a chunk, and for what is stored of one.
+/// What writing contents takes: an encoder, and room for a piece of a content or of its file, for a chunk, and for the front of the file.
 #[derive(Drop)]
 pub struct Buffers {
     encoder: Box<Encoder>,
     piece: ChunkBuf,
     plain: Gathered,
-    stored: ChunkBuf,
+    front: Gathered,
 }
 
 impl Buffers {
-    /// Takes three buffers of 32,816 bytes, and an encoder under these keys. Contents may be written under others with them.
+    /// Takes three buffers of some 33,000 bytes, and an encoder under these keys. Contents may be written under others with them.
     pub fn new(alloc: Global, keys: ContentKeys) -> Result<Buffers, AllocError> {
         let Ok(encoder) = Box::new(alloc, Encoder::new(keys)) else {
             return Err(AllocError);
@@ -36,7 +36,7 @@ impl Buffers {
             encoder,
             piece: ChunkBuf::new(alloc)?,
             plain: Gathered::new(alloc)?,
-            stored: ChunkBuf::new(alloc)?,
+            front: Gathered::new(alloc)?,
         })
     }
 }
@@ -74,7 +74,7 @@ pub fn write_content<F: Folder, R: Randoms, C: Content<F>>(
         &mut buffers.encoder,
         &mut buffers.piece,
         &mut buffers.plain,
-        &mut buffers.stored,
+        &mut buffers.front,
     )
 }
 
@@ -87,7 +87,7 @@ fn write_chunks<F: Folder, R: Randoms, C: Content<F>>(
     encoder: &mut Encoder,
     piece: &mut ChunkBuf,
     plain: &mut Gathered,
-    stored: &mut ChunkBuf,
+    front: &mut Gathered,
 ) -> Result<(), PutFault>
     requires stage { IsStage (F.told folder.old) staged.now }
     requires ready { IsReady (C.reads content.old) (F.told folder.old) (C.coming content.old) }
@@ -111,12 +111,13 @@ fn write_chunks<F: Folder, R: Randoms, C: Content<F>>(
         keys,
         encoder,
         random,
-        plain.len() == 0,
-        stored,
+        plain.bytes(),
+        piece,
+        front,
     )?;
-    'chunks: while plain.len() > 0 {
-        store_chunk(folder, staged, encoder, random, plain.bytes(), stored)?;
-        gather_next(folder, content, piece, plain, full)?;
+    'chunks: while plain.len() == full {
+        gather(folder, content, piece, plain, full)?;
+        store_chunk(folder, staged, encoder, random, plain.bytes(), piece)?;
     }
     Ok(finish_file(folder, staged)?)
 }

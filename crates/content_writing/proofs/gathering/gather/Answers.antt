@@ -63,7 +63,7 @@ pieces-preserved g c =
     let added : c.push.new.self ≡ c.pieces.plain ++ take n c.piece.new.out = c.push.ensures ∙ ap (λ (b : List ℕ). c.pieces.plain ++ take n b) c.bytes.ensures.value in
     let taken : length (take n c.piece.new.out) ≡ n = length-take-le n c.piece.new.out (omega (arith, within, few, all)) in
     let size : length c.push.new.self ≡ length c.pieces.plain + n = ap length added ∙ length-append c.pieces.plain (take n c.piece.new.out) ∙ ap (λ (k : ℕ). length c.pieces.plain + k) taken in
-    let held : c.len-in-pieces.result ≡ length c.pieces.plain = c.len-in-pieces.ensures.size in
+    let held : c.len-in-pieces.result ≡ length c.pieces.plain = c.len-in-pieces.ensures in
     record {
       told = e.told ∙ i.told;
       reads = e.reads ∙ i.reads;

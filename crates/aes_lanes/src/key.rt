@@ -124,6 +124,15 @@ impl Key256 {
             planes,
         }
     }
+
+    /// Becomes the key of these bytes, expanded in the place of the last one.
+    pub fn renew(&mut self, key: &[u8; 32])
+        ensures { self.new ≡ key.now }
+    {
+        expand_key(key, 8, &mut self.words);
+        expand_blocks(&self.words, &mut self.blocks);
+        expand_planes(&self.words, &mut self.planes);
+    }
 }
 
 impl Cipher for Key256 {

@@ -53,13 +53,19 @@ impl Gcm {
     pub fn new(key: Key256) -> Gcm
         ensures { result ≡ key }
     {
-        let mut blocks = [[0; 16]];
-        key.encrypt_blocks(&mut blocks);
-        let powers = Powers::new(&blocks[0]);
+        let powers = powers_of(&key);
         Gcm {
             cipher: key,
             powers,
         }
+    }
+
+    /// Becomes GCM under the key of these bytes, whose tables are made in the place of the last ones.
+    pub fn rekey(&mut self, key: &[u8; 32])
+        ensures { self.new ≡ key.now }
+    {
+        self.cipher.renew(key);
+        self.powers = powers_of(&self.cipher);
     }
 
     /// Encrypts `text` in place, and gives its tag (section 7.1). `iv` has 1 to 2^32 bytes, and
@@ -158,4 +164,13 @@ impl Gcm {
         let block = u8x16::from_array(lengths.to_be_bytes());
         self.powers.times(hash ^ block).to_array()
     }
+}
+
+// The tables of the hash subkey, which is the image of a block of zeros.
+fn powers_of(key: &Key256) -> Powers
+    ensures { result ≡ hash_subkey (aes256 key.now) }
+{
+    let mut blocks = [[0; 16]];
+    key.encrypt_blocks(&mut blocks);
+    Powers::new(&blocks[0])
 }

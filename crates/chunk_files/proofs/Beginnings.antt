@@ -1,6 +1,6 @@
 -- Files that were begun, and chunks that go on.
-use Rattle.std.proofs.Common.{◌≡◌, ℕ, ◌+◌, ◌≤◌, ◌&&◌, Bool, true, false, List, [], ◌++◌, length, take, drop, Option, refl, sym, ap, ap₂, ◌∙◌, subst, arith, length-append}
-use Rattle.std.proofs.lemmas.List.{length-take, drop_at, take_at, take-append-le, take-append-drop}
+use Rattle.std.proofs.Common.{◌≡◌, ℕ, ◌≤◌, ◌&&◌, Bool, true, false, List, [], length, take, drop, Option, refl, sym, ap, ◌∙◌, subst, arith}
+use Rattle.std.proofs.lemmas.List.{length-take, take-append-le, take-append-drop}
 use Rattle.port_model.specs.Draws.{ByteStream, Draws}
 use Rattle.chunk_files.specs.declared.keys.Layout.{Layout}
 use Rattle.chunk_files.specs.declared.keys.Layout.TheVariants.{Go, CmGcm, CmCtr}
@@ -53,31 +53,25 @@ go-begun key mac left left' id told file drawn size some is file_is =
       whole = λ none. cc;
     })
 
--- a Cryptomator file, whose header is made of a nonce of n bytes and the plain text with a content key, both drawn
-module _ (keys : Keys) (n : ℕ) (header_of : List ℕ → List ℕ → List ℕ) (draw : (format_of keys).header_draw ≡ n + 32)
+-- a Cryptomator file, whose header is made of the bytes drawn: a nonce of n bytes, and the content key of its plain text
+module _ (keys : Keys) (n : ℕ) (header_of : List ℕ → List ℕ → List ℕ)
     (new : (drawn : List ℕ) → (format_of keys).new_header drawn ≡ header_of (take n drawn) (new_plain (drop n drawn)))
     (tells : (drawn : List ℕ) → (format_of keys).new_told drawn ≡ cm_header (take n drawn) (new_plain (drop n drawn))) (none : (format_of keys).refuses_zeros ≡ false)
     (left left' : Option ByteStream) where
-  cm-begun : (nonce content plain : List ℕ) (told : Header) (file : List ℕ) → Draws left left' (nonce ++ content) → length nonce ≡ n → length content ≡ 32
-      → plain ≡ new_plain content → told ≡ record { key = content; file = nonce } → file ≡ header_of nonce plain
+  cm-begun : (drawn plain : List ℕ) (told : Header) (file : List ℕ) → Draws left left' drawn → length drawn ≡ (format_of keys).header_draw
+      → plain ≡ new_plain (drop n drawn) → told ≡ record { key = drop n drawn; file = take n drawn } → file ≡ header_of (take n drawn) plain
       → HasBegun keys left left' (record { keys = keys; header = told; number = 0 }) file
   unfolding is_refused
-  cm-begun nonce content plain told file drawn size thirty_two plain_is is file_is =
-      let all : List ℕ = nonce ++ content in
-      let front : take n all ≡ nonce = take_at nonce content n size in
-      let behind : drop n all ≡ content = drop_at nonce content n size in
-      let told_is : told ≡ (format_of keys).new_told all =
-      is ∙ ap₂ (λ (a b : List ℕ). cm_header a (new_plain b)) (sym front) (sym behind) ∙ sym (tells all) in
-      let file_new : file ≡ (format_of keys).new_header all =
-      file_is ∙ ap₂ header_of (sym front) (plain_is ∙ ap new_plain (sym behind)) ∙ sym (new all) in
-      let many : length all ≡ (format_of keys).header_draw = omega (arith, draw, size, thirty_two, length-append nonce content) in
-      let accepted : is_refused (format_of keys) all ≡ false = ap (λ (b : Bool). b && is_all_zero all) none in
-      let made = header-made keys all file many accepted file_new in
+  cm-begun drawn plain told file were_drawn size plain_is is file_is =
+      let told_is : told ≡ (format_of keys).new_told drawn = is ∙ sym (tells drawn) in
+      let file_new : file ≡ (format_of keys).new_header drawn = file_is ∙ ap (header_of (take n drawn)) plain_is ∙ sym (new drawn) in
+      let accepted : is_refused (format_of keys) drawn ≡ false = ap (λ (b : Bool). b && is_all_zero drawn) none in
+      let made = header-made keys drawn file size accepted file_new in
       rw told_is (record {
-        drawn = all;
-        were_drawn = drawn;
+        drawn = drawn;
+        were_drawn = were_drawn;
         made = made;
-        whole = λ some. header-encrypted keys all file some made;
+        whole = λ some. header-encrypted keys drawn file some made;
       })
 
 -- of a layout that is told
@@ -89,19 +83,19 @@ module _ (keys : Keys) (left left' : Option ByteStream) where
       → told ≡ go_header keys.key id → file ≡ go_header_of id → HasBegun keys left left' (record { keys = keys; header = told; number = 0 }) file
   started-go id told file go drawn size some is file_is = subst (Begun told file) (sym go) (go-begun keys.key keys.mac left left' id told file drawn size some is file_is)
 
-  pub started-cm : (nonce content plain : List ℕ) (told : Header) (file : List ℕ) → keys.layout ≡ CmGcm → Draws left left' (nonce ++ content)
-      → length nonce ≡ 12 → length content ≡ 32 → plain ≡ new_plain content → told ≡ record { key = content; file = nonce } → file ≡ sealed_text keys.key [] nonce plain
+  pub started-cm : (drawn plain : List ℕ) (told : Header) (file : List ℕ) → keys.layout ≡ CmGcm → Draws left left' drawn → length drawn ≡ 44
+      → plain ≡ new_plain (drop 12 drawn) → told ≡ record { key = drop 12 drawn; file = take 12 drawn } → file ≡ sealed_text keys.key [] (take 12 drawn) plain
       → HasBegun keys left left' (record { keys = keys; header = told; number = 0 }) file
-  started-cm nonce content plain told file cm drawn twelve thirty_two plain_is is file_is =
+  started-cm drawn plain told file cm were_drawn size plain_is is file_is =
       subst (Begun told file) (sym cm)
-      (cm-begun (record keys { layout = CmGcm }) 12 (sealed_text keys.key []) refl (λ d. refl) (λ d. refl) refl left left' nonce content plain told file drawn twelve thirty_two plain_is is file_is)
+      (cm-begun (record keys { layout = CmGcm }) 12 (sealed_text keys.key []) (λ d. refl) (λ d. refl) refl left left' drawn plain told file were_drawn size plain_is is file_is)
 
-  pub started-ctr : (nonce content plain : List ℕ) (told : Header) (file : List ℕ) → keys.layout ≡ CmCtr → Draws left left' (nonce ++ content)
-      → length nonce ≡ 16 → length content ≡ 32 → plain ≡ new_plain content → told ≡ record { key = content; file = nonce } → file ≡ tagged_text keys.key keys.mac [] nonce plain
+  pub started-ctr : (drawn plain : List ℕ) (told : Header) (file : List ℕ) → keys.layout ≡ CmCtr → Draws left left' drawn → length drawn ≡ 48
+      → plain ≡ new_plain (drop 16 drawn) → told ≡ record { key = drop 16 drawn; file = take 16 drawn } → file ≡ tagged_text keys.key keys.mac [] (take 16 drawn) plain
       → HasBegun keys left left' (record { keys = keys; header = told; number = 0 }) file
-  started-ctr nonce content plain told file ctr drawn sixteen thirty_two plain_is is file_is =
+  started-ctr drawn plain told file ctr were_drawn size plain_is is file_is =
       subst (Begun told file) (sym ctr)
-      (cm-begun (record keys { layout = CmCtr }) 16 (tagged_text keys.key keys.mac []) refl (λ d. refl) (λ d. refl) refl left left' nonce content plain told file drawn sixteen thirty_two plain_is is file_is)
+      (cm-begun (record keys { layout = CmCtr }) 16 (tagged_text keys.key keys.mac []) (λ d. refl) (λ d. refl) refl left left' drawn plain told file were_drawn size plain_is is file_is)
 
 -- only in gocryptfs's layout has a file of no content no header
 pub bare-is-go : (layout : Layout) (key mac : List ℕ) → (format_by layout key mac).empty_has_no_header ≡ true → layout ≡ Go

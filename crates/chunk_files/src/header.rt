@@ -13,8 +13,6 @@ use crate::sealed::open_text;
 use crate::tagged::{is_long_tag_right, restore_text};
 use crate::told::{CtrTold, GcmTold, Told};
 use crate::zeros::all_zero;
-use aes_lanes::Key256;
-use gcm_mode::Gcm;
 
 /// The lengths of the layouts' headers in bytes.
 pub const GO_HEADER: usize = 18;
@@ -68,7 +66,7 @@ fn read_cm(file: &mut GcmTold, header: &[u8]) -> Result<(), ChunkFault>
     if !open_text(&file.vault, &[], 12, header, &mut plain) {
         return Err(ChunkFault::HeaderTag);
     }
-    file.chunks = Gcm::new(content_key(&plain));
+    file.chunks.rekey(&content_key(&plain));
     file.nonce.copy_from_slice(&header[..12]);
     Ok(())
 }
@@ -85,18 +83,18 @@ fn read_ctr(file: &mut CtrTold, mac: &[u8; 32], header: &[u8]) -> Result<(), Chu
     }
     let mut plain = [0; 40];
     restore_text(&file.vault, header, &mut plain);
-    file.chunks = content_key(&plain);
+    file.chunks.renew(&content_key(&plain));
     file.nonce.copy_from_slice(&header[..16]);
     Ok(())
 }
 
-// The content key behind the reserved bytes of a header's plain text, expanded.
-fn content_key(plain: &[u8; 40]) -> Key256
+// The content key behind the reserved bytes of a header's plain text.
+fn content_key(plain: &[u8; 40]) -> [u8; 32]
     ensures { result ≡ drop 8 plain.now }
 {
     let mut key = [0; 32];
     key.copy_from_slice(&plain[RESERVED..]);
-    Key256::new(&key)
+    key
 }
 
 // The header of a gocryptfs file of this id.

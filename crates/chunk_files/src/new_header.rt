@@ -13,10 +13,7 @@ use crate::fault::EncodeFault;
 use crate::header::{CM_HEADER, CTR_HEADER, GO_HEADER, go_header, new_plain};
 use crate::keys::{ContentKeys, Layout};
 use crate::told::{CtrTold, GcmTold, Told};
-use aes_lanes::Key256;
-use gcm_mode::Gcm;
 use port_model::Randoms;
-use port_model::laws::draws_compose;
 
 // Makes a header at the front of `out`, puts what it tells in its place and answers its length.
 pub fn make_header<R: Randoms>(
@@ -72,12 +69,12 @@ fn make_cm<R: Randoms>(
     ensures fault { (keys : Keys) → keys.layout ≡ Layout.CmGcm → IfErr result (DrawFails (format_of keys) 44 (R.left random.old) (R.left random.new) (R.faults random.old) (R.faults random.new)) }
     ensures counted { IsCounted (R.faults random.old) (R.faults random.new) }
 {
-    draws_compose();
-    let nonce = draw::<12, R>(random)?;
-    let key = draw::<32, R>(random)?;
-    let length = out.seal(&file.vault, &[], &nonce, &new_plain(&key));
-    file.chunks = Gcm::new(Key256::new(&key));
-    file.nonce = nonce;
+    let drawn = draw::<44, R>(random)?;
+    let mut key = [0; 32];
+    key.copy_from_slice(&drawn[12..]);
+    let length = out.seal(&file.vault, &[], &drawn[..12], &new_plain(&key));
+    file.chunks.rekey(&key);
+    file.nonce.copy_from_slice(&drawn[..12]);
     Ok(length)
 }
 
@@ -96,11 +93,11 @@ fn make_ctr<R: Randoms>(
     ensures fault { (keys : Keys) → keys.layout ≡ Layout.CmCtr → IfErr result (DrawFails (format_of keys) 48 (R.left random.old) (R.left random.new) (R.faults random.old) (R.faults random.new)) }
     ensures counted { IsCounted (R.faults random.old) (R.faults random.new) }
 {
-    draws_compose();
-    let nonce = draw::<16, R>(random)?;
-    let key = draw::<32, R>(random)?;
-    let length = out.seal_tagged(&file.vault, mac, &[], &nonce, &new_plain(&key));
-    file.chunks = Key256::new(&key);
-    file.nonce = nonce;
+    let drawn = draw::<48, R>(random)?;
+    let mut key = [0; 32];
+    key.copy_from_slice(&drawn[16..]);
+    file.nonce.copy_from_slice(&drawn[..16]);
+    let length = out.seal_tagged(&file.vault, mac, &[], &file.nonce, &new_plain(&key));
+    file.chunks.renew(&key);
     Ok(length)
 }

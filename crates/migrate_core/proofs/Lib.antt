@@ -5,6 +5,7 @@ mod Compared
 mod Completing
 mod Continuing
 mod Copyings
+pub mod Drawing
 mod Endings
 mod Entered
 mod Fronts

@@ -2,6 +2,7 @@
 pub mod Faults
 pub mod Sides
 pub mod Leading
+pub mod Drawing
 pub mod Sharing
 pub mod Limits
 pub mod Moving

@@ -10,6 +10,7 @@ ghost use Rattle.work_folder.specs.Entering.{Empties, EntersAs};
 ghost use Rattle.migrate_core.specs.Causes.{Begins, BeginsApart, BeginsWith, IsOfPlacing, Moves, PassesBegin, TestsEmpty, TestsToBegin, Unless};
 ghost use Rattle.migrate_core.specs.Completing.{CanBegin, IsOfChance};
 ghost use Rattle.migrate_core.specs.Copying.{MayBegin, StayGood};
+ghost use Rattle.migrate_core.specs.Drawing.{DrewBy};
 ghost use Rattle.migrate_core.specs.Faults.{Blamed, IsOfTest, is_of_apart, is_of_begin};
 ghost use Rattle.migrate_core.specs.Leading.{KeepsSettled, LeadsEach};
 ghost use Rattle.migrate_core.specs.Limits.{StopsElsewhere, EndsBy, IsOfLimit, PassesInTree};
@@ -69,6 +70,7 @@ pub fn begin<F: Folder, R: Randoms>(
     ensures grows { F.faults folder.old ≤ F.faults folder.new }
     ensures random { R.faults random.old ≤ R.faults random.new }
     ensures blamed { IfErr result (Blamed is_of_begin (CountRose (F.faults folder.old) (F.faults folder.new)) (CountRose (R.faults random.old) (R.faults random.new))) }
+    ensures drew { DrewBy result (R.left random.old) (R.left random.new) }
     ensures apart { AreSeparate source.now target.now work.now → IfErr result (λ fault. IsTrue (is_of_apart fault)) }
     ensures cause { IfSeen (F.told folder.old) (λ v. Unless result (Begins names source.now target.now work.now source_pass.now target_pass.now v result)) }
     ensures written { IfSeen (F.told folder.old) (λ v. MayWriteTree result names source.now target.now work.now source_pass.now target_pass.now (R.left random.old) (R.left random.new) (F.told folder.old) (F.told folder.new)) }
@@ -117,6 +119,7 @@ fn begin_settled<F: Folder, R: Randoms>(
     ensures grows { F.faults folder.old ≤ F.faults folder.new }
     ensures random { R.faults random.old ≤ R.faults random.new }
     ensures blamed { IfErr result (Blamed is_of_apart (CountRose (F.faults folder.old) (F.faults folder.new)) (CountRose (R.faults random.old) (R.faults random.new))) }
+    ensures drew { DrewBy result (R.left random.old) (R.left random.new) }
     ensures cause { IfSeen (F.told folder.old) (λ v. Unless result (BeginsApart names source.now target.now work.now source_pass.now target_pass.now v result)) }
     ensures too_long { IfErr result (IsOfLimit (PassesInTree names source.now target.now source_pass.now target_pass.now (F.told folder.old) (F.told folder.new))) }
     ensures shared { IfErr result (IsOfTaken (SharesInTree names source.now target.now source_pass.now target_pass.now (R.left random.old) (R.left random.new) (F.told folder.old) (F.told folder.new))) }
@@ -158,6 +161,7 @@ fn begin_with<F: Folder, R: Randoms>(
     ensures grows { F.faults folder.old ≤ F.faults folder.new }
     ensures random { R.faults random.old ≤ R.faults random.new }
     ensures blamed { IfErr result (Blamed is_of_apart (CountRose (F.faults folder.old) (F.faults folder.new)) (CountRose (R.faults random.old) (R.faults random.new))) }
+    ensures drew { DrewBy result (R.left random.old) (R.left random.new) }
     ensures cause { IfSeen (F.told folder.old) (λ v. Unless result (BeginsWith sides.now.names sides.now.source sides.now.target work.now v result)) }
     ensures ends { EndsBy (StayGood sides.now.source sides.now.target (F.told folder.old) (F.told folder.new)) (SharesWhereTidy sides.now.names sides.now.source sides.now.target (R.left random.old) (R.left random.new) (F.told folder.old) (F.told folder.new)) sides.now.names sides.now.source sides.now.target (F.told folder.new) result }
     ensures written { MayWrite result sides.now.names sides.now.source sides.now.target work.now (R.left random.old) (R.left random.new) (F.told folder.old) (F.told folder.new) }
@@ -214,6 +218,7 @@ fn move_all<F: Folder, R: Randoms>(
     ensures grows { F.faults folder.old ≤ F.faults folder.new }
     ensures random { R.faults random.old ≤ R.faults random.new }
     ensures blamed { IfErr result (Blamed is_of_apart (CountRose (F.faults folder.old) (F.faults folder.new)) (CountRose (R.faults random.old) (R.faults random.new))) }
+    ensures drew { DrewBy result (R.left random.old) (R.left random.new) }
     ensures cause { IfSeen (F.told folder.old) (λ v. Unless result (Moves (EntersAs v work.now) sides.now.source sides.now.target v items.now.mapped.items result)) }
     ensures ends { EndsBy (StayGood sides.now.source sides.now.target (F.told folder.old) (F.told folder.new)) (SharesFrom (IsFilled sides.now.names sides.now.source sides.now.target []) sides.now.target items.now.mapped.items (R.left random.old) (R.left random.new) (F.told folder.old) (F.told folder.new)) sides.now.names sides.now.source sides.now.target (F.told folder.new) result }
     ensures unready { WritesBeside sides.now.target.root (λ file. ⊥) (F.told folder.old) (F.told folder.new) ⊎ IfSeen (F.told folder.old) (λ v. Empties v work.now (Ok tt)) }

@@ -16,7 +16,8 @@ ghost use Rattle.vault_walk.specs.Survey.{IsOrdered};
 ghost use Rattle.work_folder.specs.Entering.{IsReady};
 ghost use Rattle.migrate_core.specs.Causes.{IsStop, StopsLater, StopsSeen, nothing_stops};
 ghost use Rattle.migrate_core.specs.Copying.{CopiesAll, HasCopied};
-ghost use Rattle.migrate_core.specs.Faults.{Blamed, is_of_apart};
+ghost use Rattle.migrate_core.specs.Drawing.{DrewBy};
+ghost use Rattle.migrate_core.specs.Faults.{Blamed, IsOfTest, is_of_apart};
 ghost use Rattle.migrate_core.specs.Leading.{FinishesEach, LeadsTold, progress_of};
 ghost use Rattle.migrate_core.specs.Limits.{StopsElsewhere, EndsBy, PassesSeen};
 ghost use Rattle.migrate_core.specs.Moved.{Moved, StaysTidyWork, done_of, lacking};
@@ -84,6 +85,7 @@ pub(crate) fn go_on<F: Folder, R: Randoms>(
     ensures grows { F.faults folder.old ≤ F.faults folder.new }
     ensures random { R.faults random.old ≤ R.faults random.new }
     ensures blamed { IfErr result (Blamed is_of_apart (CountRose (F.faults folder.old) (F.faults folder.new)) (CountRose (R.faults random.old) (R.faults random.new))) }
+    ensures drew { DrewBy result (R.left random.old) (R.left random.new) }
     ensures moving { IfErr result (StopsSeen (HasCopied sides.now.names sides.now.source sides.now.target there.now) (F.told folder.old) sides.now.source items.now.mapped.items) }
     ensures ends { EndsBy (CopiesAll sides.now.names sides.now.source sides.now.target there.now items.now.mapped.items (F.told folder.old) (F.told folder.new)) (SharesFrom (IsFilled sides.now.names sides.now.source sides.now.target there.now) sides.now.target items.now.mapped.items (R.left random.old) (R.left random.new) (F.told folder.old) (F.told folder.new)) sides.now.names sides.now.source sides.now.target (F.told folder.new) result }
     ensures written { IsOrdered there.now → WritesBy result sides.now.source sides.now.target (lacked there.now items.now.mapped.items) (journal_text (done_of journal) ∷ []) (R.left random.old) (R.left random.new) (F.told folder.old) (F.told folder.new) }
@@ -120,6 +122,7 @@ pub(crate) fn finish<F: Folder>(
     ensures moves { MovesOnly work.now sides.now.target.root (F.told folder.old) (F.told folder.new) }
     ensures grows { F.faults folder.old ≤ F.faults folder.new }
     ensures blamed { IfErr result (Blamed is_of_apart (CountRose (F.faults folder.old) (F.faults folder.new)) ⊥) }
+    ensures tested { IfErr result IsOfTest }
     ensures moving { IfErr result (StopsLater (HasCopied sides.now.names sides.now.source sides.now.target items.now.mapped.items) (F.told folder.old)) }
     ensures ends { EndsBy (CopiesAll sides.now.names sides.now.source sides.now.target items.now.mapped.items items.now.mapped.items (F.told folder.old) (F.told folder.new)) (Unit {0}) sides.now.names sides.now.source sides.now.target (F.told folder.new) result }
     ensures written { WritesBeside sides.now.target.root (λ file. Contains (journal_text (done_of journal) ∷ []) file) (F.told folder.old) (F.told folder.new) }
@@ -154,6 +157,7 @@ fn test_same<F: Folder>(
     ensures same { OnOk result (IfSeen (F.told folder.old) (λ v. match_of v (side_of sides.now.source mapped.now.items) (side_of sides.now.target target.now.items) ≡ Is Same)) }
     ensures grows { F.faults folder.old ≤ F.faults folder.new }
     ensures blamed { IfErr result (Blamed is_of_apart (CountRose (F.faults folder.old) (F.faults folder.new)) ⊥) }
+    ensures tested { IfErr result IsOfTest }
     ensures moving { IfErr result (StopsLater (λ v. IsSameOrTooLong (match_of v (side_of sides.now.source mapped.now.items) (side_of sides.now.target target.now.items))) (F.told folder.old)) }
     ensures limit { IfErr result (PassesSeen sides.now.names sides.now.source sides.now.target (F.told folder.old)) }
 {

@@ -1,5 +1,5 @@
 -- Migrations that are led on: nothing is lost at any moment, and what was done where one wasn't begun.
-use Rattle.std.proofs.Common.{◌≡◌, ℕ, Bool, true, false, List, Option, Some, None, Result, Ok, Err, inl, inr, refl, sym, ap, ◌∙◌, subst, IsTrue, ◌⊎◌}
+use Rattle.std.proofs.Common.{◌≡◌, ℕ, Bool, true, false, List, Option, Some, None, Result, Ok, Err, IsErrAnd, inl, inr, refl, sym, ap, ◌∙◌, subst, IsTrue, ◌⊎◌, []}
 use Rattle.std.specs.Prelude.{◌≢◌, ◌||◌, MatchOption, MatchResult, if◌then◌else◌}
 use Rattle.std.proofs.lemmas.Bool.{or_left}
 use Rattle.std.specs.Io.KnownBytes as known
@@ -19,6 +19,7 @@ use Rattle.folder_spec.proofs.Regions.{as_before}
 use Rattle.folder_spec.proofs.Seen.{one_view}
 use Rattle.folder_spec.proofs.Tellings.{from_to_more, from_to_same}
 use Rattle.migrate_core.specs.Completing.{CanBegin, CanResume, IsOfChance}
+use Rattle.migrate_core.specs.Drawing.{Drew, DrewBy}
 use Rattle.migrate_core.specs.Faults as causes
 use Rattle.migrate_core.specs.Moving.{MovesOnly, OnlyBrings}
 use Rattle.migrate_core.specs.declared.fault.MoveFault.{MoveFault}
@@ -38,6 +39,7 @@ use Rattle.tree_match.specs.declared.answer.MatchFault.TheVariants as match
 use Rattle.migration_sides.specs.declared.fault.Side.{Side}
 use Rattle.vault_faults.specs.declared.fault.Limit.TheVariants as limit
 use Rattle.vault_read.specs.declared.fault.LoadFault.{LoadFault}
+use Rattle.migrate_core.proofs.Drawing.{drew_for}
 use Rattle.moving_commands.specs.Migrate.{HasMigrated, IsAskedFor, MigratesApart, MigratesTree, Pair, first_overlap, pair}
 use Rattle.moving_commands.specs.Migrate as migrating
 use Rattle.moving_answers.specs.Faults.{of_move}
@@ -49,10 +51,10 @@ use Rattle.command_answers.specs.Printing.{PrintsText}
 use Rattle.command_opening.specs.Refusing.{RefusesPass, Unless}
 use Rattle.moving_commands.specs.Resume.{HasResumed, IsResumedFor, Resumes, ResumesTree}
 use Rattle.moving_commands.specs.Resume as resuming_on
-use Rattle.command_opening.specs.Shown.{is_of_end, refused}
+use Rattle.command_opening.specs.Shown.{is_of_end, is_of_opening, refused}
 use Rattle.command_opening.specs.World.{World}
 use Rattle.command_answers.specs.declared.answer.Answer.{Answer}
-use Rattle.command_answers.specs.declared.answer.Answer.TheVariants.{OutOfMemory, FolderFault, Overlap}
+use Rattle.command_answers.specs.declared.answer.Answer.TheVariants.{OutOfMemory, FolderFault, Overlap, ZeroRandom}
 use Rattle.command_words.specs.declared.commands.Moving.{Moving}
 use Rattle.command_words.specs.declared.commands.Passes.{Passes}
 use Rattle.command_words.specs.declared.commands.Resuming.{Resuming}
@@ -208,6 +210,44 @@ module _ {O : Type 0} (passes : Passes) (IsCaused DoesSo : List ℕ → List ℕ
 pub answers_printed : {D F : Type 0} (IsRoot : F → Path → Type 0) (told : F → Path → Answer) (answer : Answer) (done : D) → IsPrinted answer → (outcome : Result D F) → outcome ≡ Ok done → AnswersBy IsRoot told answer outcome
 answers_printed IsRoot told answer done is_printed outcome is = subst (AnswersBy IsRoot told answer) (sym is) is_printed
 
+-- ---- zeros are told only where they were drawn
+
+undrawn : (zeros : Type 0) (stream : Option ByteStream) → ¬ zeros → Drew zeros stream stream
+undrawn zeros stream never = record { drawn = []; were_drawn = none_drawn stream; ends = λ is. absurd (never is) }
+
+-- where the passphrases aren't read
+pub unread_drew : {T : Type 0} (answer : Answer) (result : Result T Answer) (stream : Option ByteStream) → IsErrAnd result (λ told. told ≡ answer) → IsTrue (is_of_opening answer) → Drew (result ≡ Err ZeroRandom) stream stream
+unread_drew answer (Ok value) stream is own = absurd is
+unread_drew answer (Err told) stream is own =
+    undrawn _ stream (λ same. is_another is_of_opening answer ZeroRandom own refl (let zeros : told ≡ ZeroRandom = cc same in sym is ∙ zeros))
+
+abbrev comes_to : moved.Done → Result moved.Done Answer
+comes_to done = Ok done
+
+abbrev tells : Answer → Result moved.Done Answer
+tells answer = Err answer
+
+abbrev came : moved.Done → Outcome
+came done = Ok done
+
+abbrev fell : MoveFault → Outcome
+fell fault = Err fault
+
+-- by what a migration comes to
+pub done_drew : (done : moved.Done) (s t : Option ByteStream) → DrewBy (came done) s t → Drew (comes_to done ≡ Err ZeroRandom) s t
+done_drew done s t = drew_for (comes_to done ≡ Err ZeroRandom) (came done ≡ Err (moves.Place puts.ZeroRandom)) s t (λ is. cc is)
+
+pub fault_drew : (fault : MoveFault) (answer : Answer) (s t : Option ByteStream) → (answer ≡ ZeroRandom → fault ≡ moves.Place puts.ZeroRandom) → DrewBy (fell fault) s t → Drew (tells answer ≡ Err ZeroRandom) s t
+fault_drew fault answer s t zeros = drew_for (tells answer ≡ Err ZeroRandom) (fell fault ≡ Err (moves.Place puts.ZeroRandom)) s t (λ is. ap fell (zeros (let same : answer ≡ ZeroRandom = cc is in same)))
+
+pub stopped_drew : (answer : Answer) (s t : Option ByteStream) → Drew (tells answer ≡ Err ZeroRandom) s t → Drew (answer ≡ ZeroRandom) s t
+stopped_drew answer s t = drew_for (answer ≡ ZeroRandom) (tells answer ≡ Err ZeroRandom) s t (ap tells)
+
+-- once what was done is printed
+printed_drew : (answer : Answer) (done : moved.Done) (s t : Option ByteStream) → IsPrinted answer → Drew (comes_to done ≡ Err ZeroRandom) s t → Drew (answer ≡ ZeroRandom) s t
+printed_drew answer done s t is_printed = drew_for (answer ≡ ZeroRandom) (comes_to done ≡ Err ZeroRandom) s t
+    (λ is. absurd (is_another (λ a. is_of_opening a || is_of_end a) answer ZeroRandom (printed_is_own is_of_opening answer refl is_printed) refl is))
+
 -- ---- `migrate`
 
 module _ (moving : Moving) where
@@ -254,12 +294,13 @@ module _ (moving : Moving) where
   }
 
   pub migrate_stopped : (answer : Answer) (told told' : Option Told) (taken : Option (List ℕ)) (stream stream' : Option ByteStream) → IsTrue (is_of_stop answer)
-      → ((first second : Path) → answer ≢ Overlap first second) → IfSeen told (λ v. migrating.MayCome moving answer told told' stream stream' v)
+      → ((first second : Path) → answer ≢ Overlap first second) → Drew (answer ≡ ZeroRandom) stream stream' → IfSeen told (λ v. migrating.MayCome moving answer told told' stream stream' v)
       → ((g : Migration) → IfSeen told (λ v. IsAskedFor g moving v → KeepsAll g told told')) → MovesOnly moving.work moving.target told told'
       → ((g : Migration) → IfSeen told (λ v. IsAskedFor g moving v → CanBegin g v → Completes answer)) → MigratesApart moving answer told told' taken taken stream stream'
-  migrate_stopped answer told told' taken stream stream' own apart comes keeps moves completes = record {
+  migrate_stopped answer told told' taken stream stream' own apart drew comes keeps moves completes = record {
     own = or_left (is_of_stop answer) (is_of_end answer) own;
     apart = apart;
+    drew = drew;
     comes = comes;
     keeps = keeps;
     moves = moves;
@@ -268,12 +309,14 @@ module _ (moving : Moving) where
   }
 
   pub migrate_printed : (done : moved.Done) (answer : Answer) (told told' : Option Told) (taken taken' : Option (List ℕ)) (stream stream' : Option ByteStream) → HasMigrated moving done told told'
+      → Drew (comes_to done ≡ Err ZeroRandom) stream stream'
       → IfSeen told (λ v. migrating.ComesTo moving (λ outcome. outcome ≡ Ok done) told told' stream stream' v)
       → ((g : Migration) → IfSeen told (λ v. IsAskedFor g moving v → KeepsAll g told told')) → MovesOnly moving.work moving.target told told'
       → PrintsText (done_text done) answer taken taken' → IsPrinted answer → MigratesApart moving answer told told' taken taken' stream stream'
-  migrate_printed done answer told told' taken taken' stream stream' has comes keeps moves prints is_printed = record {
+  migrate_printed done answer told told' taken taken' stream stream' has drew comes keeps moves prints is_printed = record {
     own = printed_is_own is_of_stop answer refl is_printed;
     apart = λ first second. is_another (λ a. is_of_chance a || is_of_end a) answer (Overlap first second) (printed_is_own is_of_chance answer refl is_printed) refl;
+    drew = printed_drew answer done stream stream' is_printed drew;
     comes = λ v is. inr (comes_as moving.passes (migrating.IsCaused moving v) (migrating.IsWritten moving told told' stream stream' v) v (λ outcome. outcome ≡ Ok done)
         (AnswersMove moving.work (migrating.IsRootOf moving) answer) (answers_printed (migrating.IsRootOf moving) (λ fault root. of_move moving.work root fault) answer done is_printed) (comes v is));
     keeps = keeps;
@@ -284,7 +327,7 @@ module _ (moving : Moving) where
 
   migrates_nothing_apart : AreSafe → (told : Option Told) (taken : Option (List ℕ)) (stream : Option ByteStream) → MigratesApart moving OutOfMemory told told taken taken stream stream
   migrates_nothing_apart law told taken stream =
-      migrate_stopped OutOfMemory told told taken stream stream refl (λ first second is. cc is) (λ v is. inl (unread_undrawn moving.passes OutOfMemory told told stream v refl (inr (inl refl)))) (λ g v is asked. keeps_same law g told told refl)
+      migrate_stopped OutOfMemory told told taken stream stream refl (λ first second is. cc is) (undrawn _ stream (λ is. cc is)) (λ v is. inl (unread_undrawn moving.passes OutOfMemory told told stream v refl (inr (inl refl)))) (λ g v is asked. keeps_same law g told told refl)
       (moves_nothing moving.work moving.target told told refl) (λ g v is asked can. refl)
 
   pub migrates_nothing : AreSafe → (w : World) → MigratesTree moving OutOfMemory w w
@@ -305,11 +348,12 @@ module _ (resuming : Resuming) where
   Brings told told' = OfJournal resuming.work told (λ journal. MovesOnly resuming.work journal.target told told')
 
   pub resume_stopped : (answer : Answer) (told told' : Option Told) (taken : Option (List ℕ)) (stream stream' : Option ByteStream) → IsTrue (is_of_told_stop answer)
-      → IfSeen told (λ v. resuming_on.MayCome resuming answer told told' stream stream' v)
+      → Drew (answer ≡ ZeroRandom) stream stream' → IfSeen told (λ v. resuming_on.MayCome resuming answer told told' stream stream' v)
       → ((g : Migration) → IfSeen told (λ v. IsResumedFor g resuming v → KeepsAll g told told')) → Brings told told'
       → ((g : Migration) → IfSeen told (λ v. IsResumedFor g resuming v → CanResume g v → Completes answer)) → Resumes resuming answer told told' taken taken stream stream'
-  resume_stopped answer told told' taken stream stream' own comes keeps moves completes = record {
+  resume_stopped answer told told' taken stream stream' own drew comes keeps moves completes = record {
     own = or_left (is_of_told_stop answer) (is_of_end answer) own;
+    drew = drew;
     comes = comes;
     keeps = keeps;
     moves = moves;
@@ -318,11 +362,13 @@ module _ (resuming : Resuming) where
   }
 
   pub resume_printed : (done : moved.Done) (answer : Answer) (told told' : Option Told) (taken taken' : Option (List ℕ)) (stream stream' : Option ByteStream) → HasResumed resuming done told told'
+      → Drew (comes_to done ≡ Err ZeroRandom) stream stream'
       → IfSeen told (λ v. resuming_on.ComesTo resuming (λ outcome. outcome ≡ Ok done) told told' stream stream' v)
       → ((g : Migration) → IfSeen told (λ v. IsResumedFor g resuming v → KeepsAll g told told')) → Brings told told'
       → PrintsText (done_text done) answer taken taken' → IsPrinted answer → Resumes resuming answer told told' taken taken' stream stream'
-  resume_printed done answer told told' taken taken' stream stream' has comes keeps moves prints is_printed = record {
+  resume_printed done answer told told' taken taken' stream stream' has drew comes keeps moves prints is_printed = record {
     own = printed_is_own is_of_told_stop answer refl is_printed;
+    drew = printed_drew answer done stream stream' is_printed drew;
     comes = λ v is. inr (comes_as resuming.passes (resuming_on.IsCaused resuming v) (resuming_on.IsWritten resuming told told' stream stream' v) v (λ outcome. outcome ≡ Ok done)
         (AnswersMove resuming.work (IsOurs v) answer) (answers_printed (IsOurs v) (λ fault root. of_move resuming.work root fault) answer done is_printed) (comes v is));
     keeps = keeps;
@@ -333,7 +379,7 @@ module _ (resuming : Resuming) where
 
   pub resumes_nothing : AreSafe → (w : World) → ResumesTree resuming OutOfMemory w w
   resumes_nothing law w = record {
-    resumes = resume_stopped OutOfMemory w.told w.told w.taken w.random w.random refl (λ v is. inl (unread_undrawn resuming.passes OutOfMemory w.told w.told w.random v refl (inr (inl refl)))) (λ g v is asked. keeps_same law g w.told w.told refl)
+    resumes = resume_stopped OutOfMemory w.told w.told w.taken w.random w.random refl (undrawn _ w.random (λ is. cc is)) (λ v is. inl (unread_undrawn resuming.passes OutOfMemory w.told w.told w.random v refl (inr (inl refl)))) (λ g v is asked. keeps_same law g w.told w.told refl)
         (λ v journal is good stands. moves_nothing resuming.work journal.target w.told w.told refl) (λ g v is asked can. refl);
     untouched = Keeps-refl w.left;
   }

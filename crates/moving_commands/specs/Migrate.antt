@@ -7,6 +7,7 @@ use Rattle.folder_spec.specs.Seen.{IfSeen, under}
 use Rattle.folder_spec.specs.View.{View}
 use Rattle.migrate_core.specs.Causes.{Begins, IsOfPlacing, PassesBegin, Unless}
 use Rattle.migrate_core.specs.Completing.{CanBegin}
+use Rattle.migrate_core.specs.Drawing.{Drew}
 use Rattle.migrate_core.specs.Limits.{IsOfLimit, PassesInTree}
 use Rattle.migrate_core.specs.Moved.{MovesTree}
 use Rattle.migrate_core.specs.Moving.{MovesOnly}
@@ -27,7 +28,7 @@ use Rattle.command_opening.specs.Places.{overlap, RefusesOverlap}
 use Rattle.command_answers.specs.Printing.{PrintsDone}
 use Rattle.command_opening.specs.World.{World}
 use Rattle.command_answers.specs.declared.answer.Answer.{Answer}
-use Rattle.command_answers.specs.declared.answer.Answer.TheVariants.{Overlap}
+use Rattle.command_answers.specs.declared.answer.Answer.TheVariants.{Overlap, ZeroRandom}
 use Rattle.command_words.specs.declared.commands.Moving.{Moving}
 
 -- two folders that overlap
@@ -94,10 +95,11 @@ OwnFolders moving v =
 
 -- Of folders that don't overlap: whatever the answer is, nothing is lost; all but the work folder and the target stays as it was, nothing
 -- of the target is removed or replaced, and files come there staged. At 0 the tree is moved. Where no test can fail and no content is
--- damaged, it comes to that. It isn't answered that they overlap.
+-- damaged, it comes to that. It isn't answered that they overlap; and zeros are the answer only where sixteen were drawn last.
 pub record MigratesApart (moving : Moving) (answer : Answer) (told told' : Option Told) (taken taken' : Option (List ℕ)) (stream stream' : Option ByteStream) : Type 0 where
   pub own : IsTrue (is_of_migration answer)
   pub apart : (first second : Path) → answer ≢ Overlap first second
+  pub drew : Drew (answer ≡ ZeroRandom) stream stream'
   pub comes : IfSeen told (λ v. MayCome moving answer told told' stream stream' v)
   pub keeps : (g : Migration) → IfSeen told (λ v. IsAskedFor g moving v → KeepsAll g told told')
   pub moves : MovesOnly moving.work moving.target told told'

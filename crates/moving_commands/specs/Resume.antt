@@ -8,6 +8,7 @@ use Rattle.folder_spec.specs.View.{View}
 use Rattle.migrate_core.specs.Causes.{IsOfPlacing, PassesResume, Unless}
 use Rattle.migrate_core.specs.Causes as causes
 use Rattle.migrate_core.specs.Completing.{CanResume}
+use Rattle.migrate_core.specs.Drawing.{Drew}
 use Rattle.migrate_core.specs.Limits.{IsOfLimit, PassesAsTold}
 use Rattle.migrate_core.specs.Moved.{MovesTold}
 use Rattle.migrate_core.specs.Moving.{MovesOnly}
@@ -27,6 +28,7 @@ use Rattle.moving_commands.specs.Moving.{AnswersMove, ArePhrases, Comes, Complet
 use Rattle.command_answers.specs.Printing.{PrintsDone}
 use Rattle.command_opening.specs.World.{World}
 use Rattle.command_answers.specs.declared.answer.Answer.{Answer}
+use Rattle.command_answers.specs.declared.answer.Answer.TheVariants.{ZeroRandom}
 use Rattle.command_words.specs.declared.commands.Resuming.{Resuming}
 
 -- a migration through the work folder, of whose vaults the two files hold the keys
@@ -82,9 +84,10 @@ MayCome resuming answer told told' stream stream' v =
 
 -- Whatever the answer is, nothing is lost; where a journal stands in the work folder, all but that folder and the target stays as it was,
 -- and nothing of the target is removed or replaced. At 0 the tree is moved. Where no test can fail and no content is damaged, it comes to
--- that.
+-- that. Zeros are the answer only where sixteen were drawn last.
 pub record Resumes (resuming : Resuming) (answer : Answer) (told told' : Option Told) (taken taken' : Option (List ℕ)) (stream stream' : Option ByteStream) : Type 0 where
   pub own : IsTrue (is_of_told_migration answer)
+  pub drew : Drew (answer ≡ ZeroRandom) stream stream'
   pub comes : IfSeen told (λ v. MayCome resuming answer told told' stream stream' v)
   pub keeps : (g : Migration) → IfSeen told (λ v. IsResumedFor g resuming v → KeepsAll g told told')
   pub moves : (v : View) (journal : Journal) → IsSeen told v → IsJournal journal → StandsIn resuming.work journal v → MovesOnly resuming.work journal.target told told'

@@ -4,6 +4,7 @@ ghost use Rattle.folder_spec.specs.Apart.{AreSeparate};
 ghost use Rattle.folder_spec.specs.Path.{Path};
 ghost use Rattle.folder_spec.specs.Seen.{IfSeen};
 ghost use Rattle.migrate_core.specs.Completing.{CanBegin};
+ghost use Rattle.migrate_core.specs.Drawing.{Drew};
 ghost use Rattle.migrate_core.specs.Moving.{MovesOnly};
 ghost use Rattle.port_model.specs.Counts.{CountRose};
 ghost use Rattle.migration_spec.specs.Guard.{Migration};
@@ -93,6 +94,7 @@ fn begin<F: Folder, R: Randoms>(
     ensures own { IfErr result (λ answer. IsTrue (is_of_stop answer)) }
     ensures apart { (first second : Path) → result ≢ Err (Answer.Overlap first second) }
     ensures failed { result ≡ Err Answer.FolderFault → CountRose (F.faults folder.old) (F.faults folder.new) }
+    ensures drew { Drew (result ≡ Err Answer.ZeroRandom) (R.left random.old) (R.left random.new) }
     ensures drawn { result ≡ Err Answer.RandomFault → CountRose (R.faults random.old) (R.faults random.new) }
 {
     guarded_migrations_are_safe();

@@ -3,6 +3,7 @@ ghost use Rattle.std.specs.Prelude.{◌≡◌, ◌⊎◌, ℕ, Bool, List, Optio
 ghost use Rattle.folder_spec.specs.Seen.{IfSeen, IsSeen};
 ghost use Rattle.folder_spec.specs.View.{View};
 ghost use Rattle.migrate_core.specs.Completing.{CanResume};
+ghost use Rattle.migrate_core.specs.Drawing.{Drew};
 ghost use Rattle.migrate_core.specs.Faults.{IsMoveFault};
 ghost use Rattle.migrate_core.specs.Moving.{MovesOnly};
 ghost use Rattle.move_journal.specs.Journal.{IsJournal};
@@ -65,6 +66,7 @@ fn go_on<F: Folder, R: Randoms>(
     ensures completes { IfErr result (λ answer. (g : Migration) → IfSeen (F.told folder.old) (λ v. IsResumedFor g resuming.now v → CanResume g v → Completes answer)) }
     ensures own { IfErr result (λ answer. IsTrue (is_of_told_stop answer)) }
     ensures failed { result ≡ Err Answer.FolderFault → CountRose (F.faults folder.old) (F.faults folder.new) }
+    ensures drew { Drew (result ≡ Err Answer.ZeroRandom) (R.left random.old) (R.left random.new) }
     ensures drawn { result ≡ Err Answer.RandomFault → CountRose (R.faults random.old) (R.faults random.new) }
 {
     guarded_migrations_are_safe();
@@ -88,6 +90,7 @@ fn stopped(work: &FPath, journal: &Option<Journal>, fault: MoveFault) -> Answer
     ensures own { IsMoveFault fault → IsTrue (is_of_told_stop result) }
     ensures failed { result ≡ Answer.FolderFault → IsMoveFault fault → fault ≡ MoveFault.Failed }
     ensures drawn { result ≡ Answer.RandomFault → fault ≡ MoveFault.Place PutFault.Random }
+    ensures zeros { result ≡ Answer.ZeroRandom → fault ≡ MoveFault.Place PutFault.ZeroRandom }
 {
     let root = root_by(work, journal, unopened(&fault));
     answer_to_move(work, root, fault)

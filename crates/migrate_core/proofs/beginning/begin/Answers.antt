@@ -19,6 +19,7 @@ use Rattle.migrate_core.proofs.Limits.{if_taken, in_tree_before, limit_more, non
 use Rattle.migrate_core.specs.Limits.{PassesInTree}
 use Rattle.migrate_core.proofs.Sharing.{in_tree_since}
 use Rattle.migrate_core.specs.Sharing.{SharesInTree}
+use Rattle.migrate_core.proofs.Drawing.{drew_refused}
 use Rattle.migrate_core.proofs.beginning.begin.Goals as goal
 use Rattle.migration_spec.proofs.Settling.{settle_fell, settle_seen, settle_seen_back, still_guarded}
 use Rattle.migration_sides.proofs.Chains.{fault_as, refused_as}
@@ -210,3 +211,9 @@ returns-clause-shared g c =
     let region = apart_from_both c.args.work.now to in
     if_taken (SharesInTree c.args.names from to pass pass' left left' t1 t2) (SharesInTree c.args.names from to pass pass' left left' t0 t2) c.begin_settled.result
     (in_tree_since c.args.work.now region to c.args.names from to pass pass' left left' t0 t1 t2 (settle_moves c.args.work.now region to t0 t1 c.settle.result c.settle.ensures.changes) (settle_seen t0 t1 c.in_ok-settle.field-0 c.in_ok-settle.ensures.changes)) c.begin_settled.ensures.shared
+
+pub returns-in_err-test_apart-clause-drew : goal.returns-in_err-test_apart-clause-drew
+returns-in_err-test_apart-clause-drew g c = drew_refused c.draws_compose.ensures.none (g.R.Randoms.left c.args.random.now) c.from_residual.result _ c.from_residual.ensures.1 (step_tested c.in_err-test_apart.field-0.0).1
+
+pub returns-in_err-settle-clause-drew : goal.returns-in_err-settle-clause-drew
+returns-in_err-settle-clause-drew g c = drew_refused c.draws_compose.ensures.none (g.R.Randoms.left c.args.random.now) c.from_residual-in_err-settle.result _ c.from_residual-in_err-settle.ensures.1 (folder_tested c.in_err-settle.field-0.0).1

@@ -28,6 +28,7 @@ use Rattle.migrate_core.proofs.Limits.{limit_in_tree, none_compared, none_taken,
 use Rattle.migrate_core.specs.Copying.{StayGood}
 use Rattle.migrate_core.specs.Limits.{EndsBy, IsOfLimit, PassesInTree}
 use Rattle.migrate_core.specs.Sharing.{IsOfTaken, SharesInTree, SharesWhereTidy}
+use Rattle.migrate_core.proofs.Drawing.{drew_refused}
 use Rattle.migrate_core.proofs.beginning.begin_settled.Goals as goal
 use Rattle.migration_sides.proofs.Chains.{fault_as, refused_as, then_passes}
 use Rattle.migrate_core.specs.declared.fault.MoveFault.TheVariants.{Failed, NoMemory}
@@ -244,3 +245,9 @@ returns-in_err-sides-clause-blamed g c =
     let n1 = g.F.Folder.faults c.look.new.folder in
     let n2 = g.F.Folder.faults c.load_both.new.folder in
     fault_as _ c.from_residual-in_err-sides.result c.from_residual-in_err-sides.ensures.1 (step_begins n0 n1 n2 c.in_err-sides.field-0.0 c.look.ensures.grows c.in_err-sides.ensures.blamed)
+
+pub returns-in_err-look-clause-drew : goal.returns-in_err-look-clause-drew
+returns-in_err-look-clause-drew g c = drew_refused c.draws_compose.ensures.none (g.R.Randoms.left c.args.random.now) c.from_residual.result _ c.from_residual.ensures.1 (work_tested c.in_err-look.field-0.0).1
+
+pub returns-in_err-sides-clause-drew : goal.returns-in_err-sides-clause-drew
+returns-in_err-sides-clause-drew g c = drew_refused c.draws_compose.ensures.none (g.R.Randoms.left c.args.random.now) c.from_residual-in_err-sides.result _ c.from_residual-in_err-sides.ensures.1 (step_tested c.in_err-sides.field-0.0).1

@@ -27,6 +27,7 @@ use Rattle.migrate_core.specs.Copying.{StayGood}
 use Rattle.migrate_core.specs.Limits.{EndsBy}
 use Rattle.migrate_core.proofs.Sharing.{source_shares}
 use Rattle.migrate_core.specs.Sharing.{IsFilled, SharesFrom, SharesWhereTidy}
+use Rattle.migrate_core.proofs.Drawing.{drew_refused}
 use Rattle.migrate_core.proofs.beginning.begin_with.Goals as goal
 use Rattle.migration_sides.proofs.Chains.{fault_as, own_passes, own_refused, passed_is, refused_as}
 use Rattle.migrate_core.specs.declared.fault.MoveFault.TheVariants.{Failed, NoMemory}
@@ -240,3 +241,12 @@ returns-in_err-plans-clause-blamed g c =
     let n0 = g.F.Folder.faults c.args.folder.now in
     let n1 = g.F.Folder.faults c.walk_both.new.folder in
     fault_as _ c.from_residual.result c.from_residual.ensures.1 (step_begins n0 n0 n1 c.in_err-plans.field-0.0 (omega arith) c.in_err-plans.ensures.blamed)
+
+pub returns-in_err-plans-clause-drew : goal.returns-in_err-plans-clause-drew
+returns-in_err-plans-clause-drew g c = drew_refused c.draws_compose.ensures.none (g.R.Randoms.left c.args.random.now) c.from_residual.result _ c.from_residual.ensures.1 (step_tested c.in_err-plans.field-0.0).1
+
+pub returns-in_err-test_empty-clause-drew : goal.returns-in_err-test_empty-clause-drew
+returns-in_err-test_empty-clause-drew g c = drew_refused c.draws_compose.ensures.none (g.R.Randoms.left c.args.random.now) c.from_residual-in_err-test_empty.result _ c.from_residual-in_err-test_empty.ensures.1 c.in_err-test_empty.ensures.tested
+
+pub returns-in_err-mapped-clause-drew : goal.returns-in_err-mapped-clause-drew
+returns-in_err-mapped-clause-drew g c = drew_refused c.draws_compose.ensures.none (g.R.Randoms.left c.args.random.now) c.from_residual-in_err-mapped.result _ c.from_residual-in_err-mapped.ensures.1 c.in_err-mapped.ensures.tested

@@ -30,6 +30,7 @@ use Rattle.migrate_core.proofs.Sharing.{filled_as, shares_before}
 use Rattle.migrate_core.specs.Sharing.{IsFilled, SharesFrom}
 use Rattle.vault_spec.specs.Staying.{LoadsAlike}
 use Rattle.folder_spec.specs.Seen.{under}
+use Rattle.migrate_core.proofs.Drawing.{drew_refused}
 use Rattle.migrate_core.proofs.beginning.move_all.Given.{Over}
 use Rattle.migrate_core.proofs.beginning.move_all.Goals as goal
 use Rattle.migrate_core.proofs.beginning.move_all.Goals.{After-write}
@@ -342,3 +343,12 @@ returns-in_err-write-clause-unready g c = inr (λ v seen. entered_empties v c.ar
 
 pub returns-clause-unready : goal.returns-clause-unready
 returns-clause-unready g c = inr (λ v seen. entered_empties v c.args.work.now (c.in_ok-entered.ensures.enters.answer v seen))
+
+pub returns-in_err-entered-clause-drew : goal.returns-in_err-entered-clause-drew
+returns-in_err-entered-clause-drew g c = drew_refused c.draws_compose.ensures.none (g.R.Randoms.left c.args.random.now) c.from_residual.result _ c.from_residual.ensures.1 (work_tested c.in_err-entered.field-0.0).1
+
+pub returns-in_err-journal-clause-drew : goal.returns-in_err-journal-clause-drew
+returns-in_err-journal-clause-drew g c = drew_refused c.draws_compose.ensures.none (g.R.Randoms.left c.args.random.now) c.from_residual-in_err-journal.result _ c.from_residual-in_err-journal.ensures.1 (stop_is_test c.in_err-journal.field-0.0 (Unit {0}) c.in_err-journal.ensures.moving)
+
+pub returns-in_err-write-clause-drew : goal.returns-in_err-write-clause-drew
+returns-in_err-write-clause-drew g c = drew_refused c.draws_compose.ensures.none (g.R.Randoms.left c.args.random.now) c.from_residual-in_err-write.result _ c.from_residual-in_err-write.ensures.1 (folder_tested c.in_err-write.field-0.0).1

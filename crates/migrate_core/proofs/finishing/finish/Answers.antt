@@ -22,6 +22,8 @@ use Rattle.migrate_core.proofs.Limits.{ends_uncompared}
 use Rattle.migrate_core.proofs.Copyings.{copied_as}
 use Rattle.migrate_core.specs.Limits.{EndsBy}
 use Rattle.migrate_core.proofs.Sharing.{whichever_taken}
+use Rattle.migrate_core.proofs.Writings.{stop_is_test}
+use Rattle.migrate_core.specs.Faults.{IsOfTest}
 use Rattle.migrate_core.proofs.finishing.finish.Goals as goal
 use Rattle.migration_sides.proofs.Chains.{fault_as, refused_as}
 use Rattle.migrate_core.proofs.Tested.{step_tested}
@@ -198,3 +200,10 @@ returns-clause-ends g c v w is_v is_w has =
     let sound = g.met.F.Folder.sound c.args.folder.now in
     copied_as c.args.sides.now.names from to c.args.items.now.mapped.items v w (source_stays from.root to.root work told after c.requires.apart sound (moves to.root c.requires.apart.target) v w is_v is_w)
     (source_stays to.root from.root work told after (turned_over from.root to.root work c.requires.apart) sound (moves from.root c.requires.apart.source) v w is_v is_w) has
+
+pub returns-in_err-target-clause-tested : goal.returns-in_err-target-clause-tested
+returns-in_err-target-clause-tested g c = fault_as IsOfTest c.from_residual.result c.from_residual.ensures.1 (step_tested c.in_err-target.field-0.0).1
+
+pub returns-in_err-say_done-clause-tested : goal.returns-in_err-say_done-clause-tested
+returns-in_err-say_done-clause-tested g c =
+    fault_as IsOfTest c.from_residual-in_err-say_done.result c.from_residual-in_err-say_done.ensures.1 (stop_is_test c.in_err-say_done.field-0.0 (Unit {0}) c.in_err-say_done.ensures.moving)

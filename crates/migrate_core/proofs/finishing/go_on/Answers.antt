@@ -1,4 +1,4 @@
-use Rattle.std.proofs.Common.{◌≡◌, ◌∙◌, ap, sym, subst, [], arith, ◌∷◌, IfOk}
+use Rattle.std.proofs.Common.{◌≡◌, ℕ, ◌∙◌, ap, sym, subst, [], arith, ◌∷◌, IfOk}
 use Rattle.folder_spec.specs.Region.{apart_from_both}
 use Rattle.folder_spec.specs.Seen.{IfSeen}
 use Rattle.move_journal.specs.Writing.{IsWorkFolder}
@@ -24,6 +24,7 @@ use Rattle.migrate_core.specs.Causes.{StopsSeen}
 use Rattle.migrate_core.proofs.Limits.{ends_later, ends_stopped}
 use Rattle.migrate_core.specs.Limits.{StopsFor}
 use Rattle.migrate_core.specs.Sharing.{IsFilled, OneShares, SharesFrom}
+use Rattle.migrate_core.proofs.Drawing.{drew_err, drew_failed, drew_ok, drew_tested}
 use Rattle.migrate_core.proofs.finishing.go_on.Goals as goal
 use Rattle.migration_spec.proofs.Tellings.{seen_then}
 use Rattle.migration_sides.proofs.Chains.{fault_as, refused_as}
@@ -206,3 +207,15 @@ returns-clause-ends g c =
     (λ v. IsFilled rule from to there v → OneShares to items v (g.R.Randoms.left c.args.random.now) (g.R.Randoms.left c.place_missing.new.random) told after) rule from to told here after c.finish.result
     (λ stays v w is_v is_w has. let u = seen_then _ told here c.place_missing.ensures.moves v is_v in stays u.0 w u.1 is_w (copies v u.0 is_v u.1 has)) (seen_then _ told here c.place_missing.ensures.moves)
     c.finish.ensures.moving c.finish.ensures.ends
+
+pub returns-in_err-placed-clause-drew : goal.returns-in_err-placed-clause-drew
+returns-in_err-placed-clause-drew g c =
+    let left = g.R.Randoms.left c.args.random.now in
+    let left1 = g.R.Randoms.left c.place_missing.new.random in
+    drew_failed left left1 c.from_residual.result c.from_residual.ensures.1 (drew_err ℕ c.in_err-placed.field-0.0 left left1 c.in_err-placed.ensures.drew)
+
+pub returns-clause-drew : goal.returns-clause-drew
+returns-clause-drew g c =
+    let left = g.R.Randoms.left c.args.random.now in
+    let left1 = g.R.Randoms.left c.place_missing.new.random in
+    drew_tested c.finish.result left left1 c.finish.ensures.tested (drew_ok c.in_ok-placed.placed left left1 c.in_ok-placed.ensures.drew)

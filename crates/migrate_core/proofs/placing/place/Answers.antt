@@ -16,6 +16,7 @@ use Rattle.migrate_core.proofs.Copyings.{directory_copies}
 use Rattle.migrate_core.proofs.Sharing.{item_stops}
 use Rattle.migrate_core.specs.Sharing.{IsMadeFor}
 use Rattle.vault_write.specs.Calls.{MakesAt, MakesDirectory, New}
+use Rattle.migrate_core.proofs.Drawing.{drew_all, drew_failed, drew_placing}
 use Rattle.migrate_core.proofs.placing.place.Given.{Over}
 use Rattle.migrate_core.proofs.placing.place.Goals as goal
 use Rattle.migrate_core.proofs.placing.place.Goals.{After-place_dir_keeping}
@@ -132,3 +133,17 @@ returns-in_err-place_dir_keeping-in-Dir-clause-stops g c =
     from to (c.items_keep_vaults.ensures to.vault) c.args.work.now item NewDirectory Whole made.drawn left left' made.were_drawn told told'
     (subst (λ p. IsTrue (list_all is_name p)) (ap (λ (x : Planned). x.path) c.item.view_is) c.names-named.ensures.named) (subst (λ kind. IsMadeFor kind NewDirectory) (sym node) refl) c.requires.apart.target why
     (subst (λ q. MakesAt New to c.args.work.now q NewDirectory Whole made.drawn told told' (Err why)) (ap (λ (x : Planned). x.path) c.item.view_is) made.makes))
+
+pub returns-in_ok-place_dir_keeping-in-Dir-clause-drew : goal.returns-in_ok-place_dir_keeping-in-Dir-clause-drew
+returns-in_ok-place_dir_keeping-in-Dir-clause-drew g c =
+    let made = c.in_ok-place_dir_keeping-in-Dir.ensures.made in
+    drew_all tt (g.R.Randoms.left c.args.random.now) (g.R.Randoms.left c.place_dir_keeping.new.random) made.drawn made.were_drawn
+
+pub returns-in_err-place_dir_keeping-in-Dir-clause-drew : goal.returns-in_err-place_dir_keeping-in-Dir-clause-drew
+returns-in_err-place_dir_keeping-in-Dir-clause-drew g c =
+    let left = g.R.Randoms.left c.args.random.now in
+    let left' = g.R.Randoms.left c.place_dir_keeping.new.random in
+    let made = c.in_err-place_dir_keeping-in-Dir.ensures.made in
+    drew_failed left left' c.from_residual.result c.from_residual.ensures.1
+    (drew_placing c.args.sides.now.target c.args.work.now c.item.inside.path NewDirectory Whole made.drawn (g.F.Folder.told c.args.folder.now) (g.F.Folder.told c.place_dir_keeping.new.folder) left left'
+    c.in_err-place_dir_keeping-in-Dir.field-0.0 made.were_drawn made.makes)

@@ -26,6 +26,7 @@ use Rattle.migrate_core.specs.Copying.{Enters}
 use Rattle.migrate_core.proofs.Copyings.{file_copies}
 use Rattle.migrate_core.proofs.Sharing.{item_stops}
 use Rattle.migrate_core.specs.Sharing.{IsMadeFor}
+use Rattle.migrate_core.proofs.Drawing.{drew_all, drew_failed, drew_placing, drew_refused}
 use Rattle.migrate_core.proofs.placing.place_content.Given.{Over}
 use Rattle.migrate_core.proofs.placing.place_content.Goals as goal
 use Rattle.migrate_core.proofs.placing.place_content.Goals.{In_ok-content, After-place_file_keeping-placed}
@@ -192,3 +193,21 @@ returns-in_err-placed-clause-stops g c =
     from to (c.items_keep_vaults.ensures to.vault) c.args.work.now item (NewFile w.content) w.ending w.drawn left left' made.takes.were_drawn told told'
     (subst (λ p. IsTrue (list_all is_name p)) (ap (λ (x : Planned). x.path) c.item.view_is) c.names-named.ensures.named) (subst (λ kind. IsMadeFor kind (NewFile w.content)) (sym c.requires.file) (w.content, refl)) c.requires.apart.target why
     (subst (λ q. MakesAt New to c.args.work.now q (NewFile w.content) w.ending w.drawn told told' (Err why)) (ap (λ (x : Planned). x.path) c.item.view_is) made.makes))
+
+pub returns-in_err-content-clause-drew : goal.returns-in_err-content-clause-drew
+returns-in_err-content-clause-drew g c = drew_refused c.draws_compose.ensures.none (g.R.Randoms.left c.args.random.now) c.from_residual.result _ c.from_residual.ensures.1 tt
+
+pub returns-in_err-placed-clause-drew : goal.returns-in_err-placed-clause-drew
+returns-in_err-placed-clause-drew g c =
+    let left = g.R.Randoms.left c.args.random.now in
+    let left' = g.R.Randoms.left c.place_file_keeping-placed.new.random in
+    let made = c.in_err-placed.ensures.made in
+    let w = made.writing in
+    drew_failed left left' c.from_residual-in_err-placed.result c.from_residual-in_err-placed.ensures.1
+    (drew_placing c.args.sides.now.target c.args.work.now c.item.inside.path (NewFile w.content) w.ending w.drawn (g.F.Folder.told c.args.folder.now) (g.F.Folder.told c.place_file_keeping-placed.new.folder) left left'
+    c.in_err-placed.field-0.0 made.takes.were_drawn made.makes)
+
+pub returns-clause-drew : goal.returns-clause-drew
+returns-clause-drew g c =
+    let made = c.in_ok-placed.ensures.made in
+    drew_all tt (g.R.Randoms.left c.args.random.now) (g.R.Randoms.left c.place_file_keeping-placed.new.random) made.writing.drawn made.takes.were_drawn

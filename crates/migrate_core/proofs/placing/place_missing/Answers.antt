@@ -1,4 +1,4 @@
-use Rattle.std.proofs.Common.{◌∙◌, ◌+◌, true, false, refl, sym, ap, arith, Contains, [], drop, subst, take, ◌++◌, ◌∷◌}
+use Rattle.std.proofs.Common.{◌∙◌, ◌+◌, Bool, Ok, true, false, refl, sym, ap, arith, Contains, [], drop, subst, take, ◌++◌, ◌∷◌}
 use Rattle.std.proofs.lemmas.List.{take_all}
 use Rattle.migrate_core.proofs.Searched.{counted_on}
 use Rattle.migrate_core.specs.Moved.{lacking}
@@ -19,6 +19,7 @@ use Rattle.migrate_core.proofs.Sharing.{next_lacks, none_filled, one_filled, sha
 use Rattle.migrate_core.specs.Sharing.{IsFilled, Lacks, SharesFrom}
 use Rattle.migrate_core.specs.Faults.{is_of_apart}
 use Rattle.vault_write.specs.Calls.{IsKept}
+use Rattle.migrate_core.proofs.Drawing.{drew_err, drew_failed, drew_none, drew_ok, drew_tested, drew_then}
 use Rattle.migrate_core.proofs.placing.place_missing.Goals as goal
 use Rattle.migrate_core.proofs.placing.place_missing.Goals.{then-branch, else-branch}
 use Rattle.folder_spec.proofs.Seen.{one_view}
@@ -31,6 +32,7 @@ loop-item-init g c =
     record {
       grows = omega arith;
       random = omega arith;
+      drew = drew_none c.draws_compose.ensures.none (g.R.Randoms.left c.args.random.now);
       few = omega arith;
       ready = c.requires.ready;
       led = λ m sides. (still_guards m Begun told told refl, still_leads m Begun told told refl);
@@ -132,6 +134,7 @@ loop-item-preserved g c =
     record {
       grows = omega (arith, i.grows, c.place_missing_one.ensures.grows);
       random = omega (arith, i.random, c.place_missing_one.ensures.random);
+      drew = drew_then c.draws_compose.ensures.composed ⊥ left left1 left2 i.drew (drew_ok c.in_ok-place_missing_one.field-0 left1 left2 c.in_ok-place_missing_one.ensures.drew);
       few = elim c.if-branch.branch [
         | then-branch w ↦ omega (arith, w.placed-is, i.few)
         | else-branch w ↦ omega (arith, w.placed-is, i.few)
@@ -261,3 +264,14 @@ returns-in_err-place_missing_one-clause-stops g c =
     copied (i.fills v w is_v is_w h).0)
     (λ v w is_v is_w h. (i.fills v w is_v is_w h).1) (next_among items k item c.loop-item-test.true c.item-item.is) c.draws_compose.ensures.composed
     (λ v is. let w = i.written (c.requires.there v is) in (slices w.made, w.writes.drawn))) c.in_err-place_missing_one.ensures.stops)
+
+pub returns-in_err-place_missing_one-clause-drew : goal.returns-in_err-place_missing_one-clause-drew
+returns-in_err-place_missing_one-clause-drew g c =
+    let left = g.R.Randoms.left c.args.random.now in
+    let left1 = g.R.Randoms.left c.loop-item.random in
+    let left2 = g.R.Randoms.left c.place_missing_one.new.random in
+    drew_failed left left2 c.from_residual.result c.from_residual.ensures.1
+    (drew_then c.draws_compose.ensures.composed _ left left1 left2 c.loop-item.invariant.drew (drew_err Bool c.in_err-place_missing_one.field-0.0 left1 left2 c.in_err-place_missing_one.ensures.drew))
+
+pub returns-clause-drew : goal.returns-clause-drew
+returns-clause-drew g c = drew_tested (Ok c.loop-item.placed) (g.R.Randoms.left c.args.random.now) (g.R.Randoms.left c.loop-item.random) tt c.loop-item.invariant.drew

@@ -6,6 +6,7 @@ use Rattle.content_writing.specs.Making.{is_apart}
 use Rattle.work_folder.specs.Entering.{IsReady}
 use Rattle.vault_write.specs.Calls.{IsKept}
 use Rattle.migrate_core.specs.Copying.{CopiesAll}
+use Rattle.migrate_core.specs.Drawing.{Drew}
 use Rattle.migrate_core.specs.Leading.{HasLed}
 use Rattle.migrate_core.specs.Moved.{lacking}
 use Rattle.migrate_core.specs.Moving.{MovesBeside}
@@ -18,6 +19,7 @@ abbrev pub invariant-loop-item : goal.invariant-loop-item
 invariant-loop-item g l = record {
   grows : g.F.Folder.faults l.initial.folder ≤ g.F.Folder.faults l.folder;
   random : g.R.Randoms.faults l.initial.random ≤ g.R.Randoms.faults l.random;
+  drew : Drew ⊥ (g.R.Randoms.left l.initial.random) (g.R.Randoms.left l.random);
   few : l.placed ≤ l.item-index;
   ready : IfSeen (g.F.Folder.told l.folder) (λ v. IsReady v l.work);
   led : HasLed l.sides.names l.sides.source l.sides.target l.work Begun Begun (g.F.Folder.told l.initial.folder) (g.F.Folder.told l.folder);

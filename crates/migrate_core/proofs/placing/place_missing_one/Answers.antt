@@ -1,4 +1,4 @@
-use Rattle.std.proofs.Common.{refl, sym, ◌∙◌, Contains, [], cond, not, subst, ◌∷◌}
+use Rattle.std.proofs.Common.{Ok, true, false, refl, sym, ◌∙◌, Contains, [], cond, not, subst, ◌∷◌}
 use Rattle.folder_spec.specs.Seen.{seen}
 use Rattle.migration_spec.specs.Alone.{Begun}
 use Rattle.migrate_core.proofs.Leadings.{nothing_told, still_guards, still_leads}
@@ -8,6 +8,7 @@ use Rattle.migrate_core.proofs.Searched.{there_by, there_where}
 use Rattle.migrate_core.proofs.Writings.{only_nowhere, texts_alone}
 use Rattle.migrate_core.specs.Written.{BringsOnlyTo, WritesAll, WritesBy, WritesFirst, lacked}
 use Rattle.migrate_core.proofs.Copyings.{stands_copied}
+use Rattle.migrate_core.proofs.Drawing.{drew_err, drew_failed, drew_none, drew_ok, drew_tested}
 use Rattle.migrate_core.proofs.placing.place_missing_one.Goals as goal
 use Rattle.folder_spec.proofs.Seen.{one_view}
 use Rattle.migration_sides.proofs.Chains.{fault_as, refused_as}
@@ -83,3 +84,20 @@ pub returns-in_err-place-clause-stops : goal.returns-in_err-place-clause-stops
 returns-in_err-place-clause-stops g c =
     fault_as _ c.from_residual.result c.from_residual.ensures.1
     c.in_err-place.ensures.stops
+
+pub returns-then-stands-clause-drew : goal.returns-then-stands-clause-drew
+returns-then-stands-clause-drew g c =
+    let left = g.R.Randoms.left c.args.random.now in
+    drew_tested (Ok false) left left tt (drew_none c.draws_compose.ensures.none left)
+
+pub returns-in_err-place-clause-drew : goal.returns-in_err-place-clause-drew
+returns-in_err-place-clause-drew g c =
+    let left = g.R.Randoms.left c.args.random.now in
+    let left' = g.R.Randoms.left c.place.new.random in
+    drew_failed left left' c.from_residual.result c.from_residual.ensures.1 (drew_err (Unit {0}) c.in_err-place.field-0.0 left left' c.in_err-place.ensures.drew)
+
+pub returns-clause-drew : goal.returns-clause-drew
+returns-clause-drew g c =
+    let left = g.R.Randoms.left c.args.random.now in
+    let left' = g.R.Randoms.left c.place.new.random in
+    drew_tested (Ok true) left left' tt (drew_ok tt left left' c.in_ok-place.ensures.drew)

@@ -27,6 +27,7 @@ use Rattle.migrate_core.proofs.Blaming.{blamed_later}
 use Rattle.migrate_core.proofs.Limits.{ends_more, ends_uncompared}
 use Rattle.migrate_core.specs.Limits.{EndsBy}
 use Rattle.migrate_core.specs.Sharing.{IsFilled, SharesFrom}
+use Rattle.migrate_core.proofs.Drawing.{drew_refused}
 use Rattle.migrate_core.proofs.resuming.place_rest.Given.{Over}
 use Rattle.migrate_core.proofs.resuming.place_rest.Goals as goal
 use Rattle.migrate_core.proofs.resuming.place_rest.Goals.{After-again}
@@ -219,3 +220,6 @@ returns-in_err-again-clause-unready g c = inl (no_file g (goal.at.returns-in_err
 
 pub returns-clause-unready : goal.returns-clause-unready
 returns-clause-unready g c = inr c.in_ok-again.ensures.restages.answer
+
+pub returns-in_err-again-clause-drew : goal.returns-in_err-again-clause-drew
+returns-in_err-again-clause-drew g c = drew_refused c.draws_compose.ensures.none (g.R.Randoms.left c.args.random.now) c.from_residual.result _ c.from_residual.ensures.1 (work_tested c.in_err-again.field-0.0).1

@@ -12,6 +12,7 @@ use Rattle.migrate_core.proofs.Completing.{folder_chance, own_faults}
 use Rattle.migrate_core.proofs.Continuing.{resume_completes}
 use Rattle.migrate_core.proofs.Limits.{as_told_before, limit_more, none_compared}
 use Rattle.migrate_core.specs.Limits.{PassesAsTold}
+use Rattle.migrate_core.proofs.Drawing.{drew_refused}
 use Rattle.migrate_core.proofs.resuming.resume.Goals as goal
 use Rattle.migration_spec.proofs.Settling.{settle_fell, settle_seen, settle_seen_back}
 use Rattle.migrate_core.proofs.Settled.{settle_goes}
@@ -117,3 +118,6 @@ returns-clause-too_long g c v seen =
     let pass' = c.args.target_pass.now in
     let known = settle_seen t0 t1 c.in_ok-settle.field-0 c.in_ok-settle.ensures.changes in
     limit_more (PassesAsTold work pass pass' t1 t2 v) (PassesAsTold work pass pass' t0 t2 v) c.resume_settled.result (as_told_before work pass pass' t0 t1 t2 known v) (c.resume_settled.ensures.too_long v (known v seen))
+
+pub returns-in_err-settle-clause-drew : goal.returns-in_err-settle-clause-drew
+returns-in_err-settle-clause-drew g c = drew_refused c.draws_compose.ensures.none (g.R.Randoms.left c.args.random.now) c.from_residual.result _ c.from_residual.ensures.1 (folder_tested c.in_err-settle.field-0.0).1

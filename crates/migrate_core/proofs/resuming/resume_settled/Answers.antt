@@ -23,6 +23,7 @@ use Rattle.migrate_core.proofs.WrittenTrees.{nothing_written, told_of}
 use Rattle.migrate_core.specs.Written.{MayWriteTree}
 use Rattle.migrate_core.proofs.Limits.{limit_more, none_compared}
 use Rattle.migrate_core.specs.Limits.{PassesAsTold, PassesInTree}
+use Rattle.migrate_core.proofs.Drawing.{drew_refused}
 use Rattle.migrate_core.proofs.resuming.resume_settled.Goals as goal
 use Rattle.migration_sides.proofs.Chains.{fault_as, passed_is, refused_as, then_passes, then_refused}
 use Rattle.migrate_core.specs.declared.fault.MoveFault.TheVariants.{Failed, NoMemory}
@@ -234,3 +235,12 @@ returns-clause-too_long g c v seen =
 pub returns-in_err-test_apart-clause-blamed : goal.returns-in_err-test_apart-clause-blamed
 returns-in_err-test_apart-clause-blamed g c =
     fault_as _ c.from_residual-in_err-test_apart.result c.from_residual-in_err-test_apart.ensures.1 (apart_resumes c.in_err-test_apart.field-0.0 c.in_err-test_apart.ensures.own)
+
+pub returns-in_err-journal-clause-drew : goal.returns-in_err-journal-clause-drew
+returns-in_err-journal-clause-drew g c = drew_refused c.draws_compose.ensures.none (g.R.Randoms.left c.args.random.now) c.from_residual.result _ c.from_residual.ensures.1 (journal_tested c.in_err-journal.field-0.0).1
+
+pub returns-in_err-test_apart-clause-drew : goal.returns-in_err-test_apart-clause-drew
+returns-in_err-test_apart-clause-drew g c = drew_refused c.draws_compose.ensures.none (g.R.Randoms.left c.args.random.now) c.from_residual-in_err-test_apart.result _ c.from_residual-in_err-test_apart.ensures.1 (step_tested c.in_err-test_apart.field-0.0).1
+
+pub returns-in_err-look_again-clause-drew : goal.returns-in_err-look_again-clause-drew
+returns-in_err-look_again-clause-drew g c = drew_refused c.draws_compose.ensures.none (g.R.Randoms.left c.args.random.now) c.from_residual-in_err-look_again.result _ c.from_residual-in_err-look_again.ensures.1 (work_tested c.in_err-look_again.field-0.0).1

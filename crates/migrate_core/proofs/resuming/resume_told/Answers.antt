@@ -23,6 +23,7 @@ use Rattle.migrate_core.specs.Written.{MayWrite}
 use Rattle.migrate_core.proofs.Limits.{limit_in_tree, none_compared}
 use Rattle.migrate_core.specs.Copying.{StayGood}
 use Rattle.migrate_core.specs.Limits.{EndsBy}
+use Rattle.migrate_core.proofs.Drawing.{drew_refused}
 use Rattle.migrate_core.proofs.resuming.resume_told.Goals as goal
 use Rattle.migration_sides.proofs.Chains.{fault_as, own_passes, own_refused, passed_is, refused_as}
 use Rattle.migrate_core.specs.declared.fault.MoveFault.TheVariants.{Failed, NoMemory}
@@ -213,3 +214,9 @@ returns-in_err-sides-clause-blamed g c =
     let n1 = g.F.Folder.faults c.test_source.new.folder in
     let n2 = g.F.Folder.faults c.load_both.new.folder in
     fault_as _ c.from_residual-in_err-sides.result c.from_residual-in_err-sides.ensures.1 (step_resumes n0 n1 n2 c.in_err-sides.field-0.0 c.test_source.ensures.grows c.in_err-sides.ensures.blamed)
+
+pub returns-in_err-test_source-clause-drew : goal.returns-in_err-test_source-clause-drew
+returns-in_err-test_source-clause-drew g c = drew_refused c.draws_compose.ensures.none (g.R.Randoms.left c.args.random.now) c.from_residual.result _ c.from_residual.ensures.1 c.in_err-test_source.ensures.tested
+
+pub returns-in_err-sides-clause-drew : goal.returns-in_err-sides-clause-drew
+returns-in_err-sides-clause-drew g c = drew_refused c.draws_compose.ensures.none (g.R.Randoms.left c.args.random.now) c.from_residual-in_err-sides.result _ c.from_residual-in_err-sides.ensures.1 (step_tested c.in_err-sides.field-0.0).1

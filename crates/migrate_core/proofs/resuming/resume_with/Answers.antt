@@ -27,6 +27,7 @@ use Rattle.migrate_core.proofs.Limits.{ends_uncompared}
 use Rattle.migrate_core.specs.Copying.{StayGood}
 use Rattle.migrate_core.specs.Limits.{EndsBy}
 use Rattle.migrate_core.proofs.Sharing.{whichever_taken}
+use Rattle.migrate_core.proofs.Drawing.{drew_refused}
 use Rattle.migrate_core.proofs.resuming.resume_with.Goals as goal
 use Rattle.migration_sides.proofs.Chains.{fault_as, passed_is, refused_as}
 use Rattle.migration_sides.specs.Tests.{all_pass}
@@ -224,3 +225,9 @@ returns-in_err-plans-clause-blamed g c =
     let n0 = g.F.Folder.faults c.args.folder.now in
     let n1 = g.F.Folder.faults c.walk_both.new.folder in
     fault_as _ c.from_residual.result c.from_residual.ensures.1 (step_resumes n0 n0 n1 c.in_err-plans.field-0.0 (omega arith) c.in_err-plans.ensures.blamed)
+
+pub returns-in_err-plans-clause-drew : goal.returns-in_err-plans-clause-drew
+returns-in_err-plans-clause-drew g c = drew_refused c.draws_compose.ensures.none (g.R.Randoms.left c.args.random.now) c.from_residual.result _ c.from_residual.ensures.1 (step_tested c.in_err-plans.field-0.0).1
+
+pub returns-in_err-mapped-clause-drew : goal.returns-in_err-mapped-clause-drew
+returns-in_err-mapped-clause-drew g c = drew_refused c.draws_compose.ensures.none (g.R.Randoms.left c.args.random.now) c.from_residual-in_err-mapped.result _ c.from_residual-in_err-mapped.ensures.1 c.in_err-mapped.ensures.tested

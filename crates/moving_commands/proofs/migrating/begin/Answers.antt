@@ -8,7 +8,7 @@ use Rattle.migrate_core.specs.Completing.{CanBegin}
 use Rattle.migration_spec.specs.Guard.{Migration}
 use Rattle.moving_commands.specs.Migrate.{IsAskedFor, IsWritten, MayCome}
 use Rattle.moving_commands.specs.Moving.{ArePhrases, Completes}
-use Rattle.moving_commands.proofs.Migrations.{chance_answered, keeps_same, keeps_since, keys_read, keys_seen, phrases_are, read_completes, unread_undrawn}
+use Rattle.moving_commands.proofs.Migrations.{chance_answered, done_drew, fault_drew, keeps_same, keeps_since, keys_read, keys_seen, phrases_are, read_completes, unread_drew, unread_undrawn}
 use Rattle.moving_commands.proofs.migrating.begin.Goals as goal
 
 pub returns-in_err-phrases-clause-keeps : goal.returns-in_err-phrases-clause-keeps
@@ -113,3 +113,12 @@ returns-clause-completes g c = λ m v is asked can.
     c.as_slice.result.now c.as_slice-2.result.now v c.as_slice.ensures c.as_slice-2.ensures (c.in_ok-phrases.ensures.source v is) (c.in_ok-phrases.ensures.target v is) in
     chance_answered moving.work c.root_of-root.result.now c.in-Err.fault c.answer_to_move.result
     (c.in-Err.ensures.completes m v seen asked.asked (keys_read m moving.passes v c.as_slice.result.now c.as_slice-2.result.now are asked.keys) can) c.answer_to_move.ensures.answers
+
+pub returns-in_err-phrases-clause-drew : goal.returns-in_err-phrases-clause-drew
+returns-in_err-phrases-clause-drew g c = unread_drew c.in_err-phrases.field-0.0 c.from_residual.result (g.R.Randoms.left c.args.random.now) c.from_residual.ensures.1 c.in_err-phrases.ensures.own
+
+pub returns-in-Ok-clause-drew : goal.returns-in-Ok-clause-drew
+returns-in-Ok-clause-drew g c = done_drew c.in-Ok.done (g.R.Randoms.left c.args.random.now) (g.R.Randoms.left c.begin.new.random) c.in-Ok.ensures.drew
+
+pub returns-clause-drew : goal.returns-clause-drew
+returns-clause-drew g c = fault_drew c.in-Err.fault c.answer_to_move.result (g.R.Randoms.left c.args.random.now) (g.R.Randoms.left c.begin.new.random) c.answer_to_move.ensures.zeros c.in-Err.ensures.drew

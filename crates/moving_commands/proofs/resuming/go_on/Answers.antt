@@ -9,7 +9,7 @@ use Rattle.migration_sides.proofs.Unchanged.{tested_seen}
 use Rattle.migration_spec.specs.Guard.{Migration}
 use Rattle.moving_commands.specs.Moving.{ArePhrases, Completes}
 use Rattle.moving_commands.specs.Resume.{IsResumedFor, IsWritten, MayCome, root_by, unopened}
-use Rattle.moving_commands.proofs.Migrations.{chance_answered, journal_root, journal_since, keeps_since, keeps_same, phrases_are, read_completes, keys_read, keys_seen, unread_undrawn}
+use Rattle.moving_commands.proofs.Migrations.{chance_answered, done_drew, fault_drew, journal_root, journal_since, keeps_since, keeps_same, phrases_are, read_completes, keys_read, keys_seen, unread_drew, unread_undrawn}
 use Rattle.moving_commands.proofs.resuming.go_on.Goals as goal
 
 pub returns-in_err-known-clause-keeps : goal.returns-in_err-known-clause-keeps
@@ -140,3 +140,12 @@ pub returns-clause-moves : goal.returns-clause-moves
 returns-clause-moves g c =
     journal_since c.args.resuming.now.work (λ journal t. MovesOnly c.args.resuming.now.work journal.target t (g.F.Folder.told c.resume.new.folder)) (g.F.Folder.told c.args.folder.now) (g.F.Folder.told c.learn.new.folder)
     c.in_ok-known.ensures.told c.resume.ensures.moves
+
+pub returns-in_err-known-clause-drew : goal.returns-in_err-known-clause-drew
+returns-in_err-known-clause-drew g c = unread_drew c.in_err-known.field-0.0 c.from_residual.result (g.R.Randoms.left c.args.random.now) c.from_residual.ensures.1 c.in_err-known.ensures.own
+
+pub returns-in-Ok-clause-drew : goal.returns-in-Ok-clause-drew
+returns-in-Ok-clause-drew g c = done_drew c.in-Ok.done (g.R.Randoms.left c.args.random.now) (g.R.Randoms.left c.resume.new.random) c.in-Ok.ensures.drew
+
+pub returns-clause-drew : goal.returns-clause-drew
+returns-clause-drew g c = fault_drew c.in-Err.fault c.stopped.result (g.R.Randoms.left c.args.random.now) (g.R.Randoms.left c.resume.new.random) c.stopped.ensures.zeros c.in-Err.ensures.drew

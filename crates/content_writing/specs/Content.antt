@@ -13,10 +13,6 @@ use Rattle.vault_faults.specs.declared.fault.Limit.TheVariants.{Input}
 use Rattle.content_writing.specs.declared.fault.PutFault.{PutFault}
 use Rattle.content_writing.specs.declared.fault.PutFault.TheVariants as puts
 
--- the most bytes that a content has, 2^40
-abbrev pub content_limit : ℕ
-content_limit = 1099511627776
-
 -- a content ends, or at a fault of its file, or where it passes a limit
 pub data Ending : Type 0 where
   Whole : Ending

@@ -1,7 +1,7 @@
 -- Laws of the types of this crate (private contracts only).
 use Rattle.std.specs.Prelude.{◌≤◌}
 use Rattle.content_writing.specs.declared.room.Room.{Room}
-use Rattle.content_writing.specs.Content.{content_limit}
+use Rattle.vault_faults.specs.Limits.{content_limit}
 
 pub rooms_fit : (room : Room) → room.bytes ≤ content_limit
 rooms_fit room = room.fits

@@ -4,7 +4,8 @@ ghost use Rattle.std.specs.Borrow.{GName};
 ghost use Rattle.port_model.specs.Counts.{CountRose};
 ghost use Rattle.folder_spec.specs.Path.{Path};
 ghost use Rattle.folder_spec.specs.View.{Found};
-ghost use Rattle.content_writing.specs.Content.{Coming, content_limit, Stands, IsReady, Gives, IsContentFault};
+ghost use Rattle.content_writing.specs.Content.{Coming, Stands, IsReady, Gives, IsContentFault};
+ghost use Rattle.vault_faults.specs.Limits.{content_limit};
 
 use crate::fault::PutFault;
 use chunk_files::ChunkBuf;

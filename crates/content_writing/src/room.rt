@@ -2,7 +2,8 @@
 ghost use Rattle.std.specs.Prelude.{◌≡◌, ◌≤◌, ◌+◌, ◌-◌, ◌<◌, ◌⊎◌, true, false, IfOk, IfErr, Err, length, take, []};
 ghost use Rattle.std.specs.Io.KnownBytes.{Consumes, IsAtEnd, Keeps};
 ghost use Rattle.port_model.specs.Counts.{CountRose};
-ghost use Rattle.content_writing.specs.Content.{content_limit, coming_from, Gives};
+ghost use Rattle.content_writing.specs.Content.{coming_from, Gives};
+ghost use Rattle.vault_faults.specs.Limits.{content_limit};
 
 use crate::fault::PutFault;
 use port_model::Source;

@@ -1,6 +1,7 @@
 //! The content that a source gives.
 ghost use Rattle.std.specs.Prelude.{◌≡◌, ◌-◌, ◌<◌, None, false, take};
-ghost use Rattle.content_writing.specs.Content.{content_limit, coming_from};
+ghost use Rattle.content_writing.specs.Content.{coming_from};
+ghost use Rattle.vault_faults.specs.Limits.{content_limit};
 
 use crate::content::Content;
 use crate::fault::PutFault;

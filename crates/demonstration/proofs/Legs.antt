@@ -27,7 +27,8 @@ use Rattle.vault_read.specs.declared.vault.VaultKind.{VaultKind}
 use Rattle.vault_read.specs.declared.vault.VaultKind.TheVariants as kind
 use Rattle.vault_spec.specs.Vault.{IsVault}
 use Rattle.demonstration.specs.Demo.{OnEnd}
-use Rattle.demonstration.specs.DemoTrees.{BringsItems, Carries, GoesOn, HasOwn, IsMoved, IsNewAt, IsWithin, Leads, LeadsBoth, Leaves, LeavesSource, MakesItems, first_root, kind_to, moving_folder, second_root, WhereTold, source_of, target_of, third_root}
+use Rattle.demonstration.specs.DemoTrees.{BringsItems, Carries, HasOwn, IsMoved, IsNewAt, IsWithin, Leads, LeadsBoth, Leaves, LeavesSource, MakesItems, first_root, kind_to, moving_folder, second_root, WhereTold, source_of, target_of, third_root}
+use Rattle.migrate_core.specs.Written.{HasGone}
 use Rattle.command_answers.specs.declared.answer.Answer.{Answer}
 use Rattle.demonstration.specs.declared.demonstrating.Way.{Way as Ended}
 use Rattle.demonstration.specs.declared.demonstrating.Way.TheVariants as ways
@@ -52,10 +53,10 @@ pub apart_moving : (leg : Leg) → IsWithin (source_of leg) (apart_from_both mov
 apart_moving There = within first_root (apart_from_both moving_folder second_root) (λ rest. refl)
 apart_moving Back = within second_root (apart_from_both moving_folder third_root) (λ rest. refl)
 
-goes_on : (P : State → Type 0) (Q : State → Event → Type 0) (a b : Told) → Went P Q a b → GoesOn a b
+goes_on : (P : State → Type 0) (Q : State → Event → Type 0) (a b : Told) → Went P Q a b → HasGone a b
 goes_on P Q a b went = went_more P (λ s. Unit {0}) Q (λ s e. Unit {0}) a b (λ s is. tt) (λ s e is. tt) went
 
-go_then : (a b c : Told) → GoesOn a b → GoesOn b c → GoesOn a c
+go_then : (a b c : Told) → HasGone a b → HasGone b c → HasGone a c
 go_then a b c first next = went_on (λ s. Unit {0}) (λ s e. Unit {0}) a b c first next
 
 -- ---- where it is told

@@ -3,7 +3,7 @@ use Rattle.std.specs.Prelude.{◌≡◌, ℕ, Bool, [], ◌∷◌, codes, Option
 use Rattle.demo_core.specs.Making.{HoldsItems, StandsNew, making_folder, phrase}
 use Rattle.plain_tree.specs.declared.name_map.NameMap.TheVariants.{Same}
 use Rattle.folder_spec.specs.Event.{Told}
-use Rattle.folder_spec.specs.Moments.{Went}
+use Rattle.migrate_core.specs.Written.{HasGone}
 use Rattle.folder_spec.specs.Path.{Path}
 use Rattle.folder_spec.specs.Region.{apart_from_both, at_or_below}
 use Rattle.folder_spec.specs.Seen.{seen, under}
@@ -30,10 +30,6 @@ second_root = codes "c" ∷ []
 abbrev pub third_root : Path
 third_root = codes "h" ∷ []
 
--- by its calls the folder came from one moment to the other
-abbrev pub GoesOn : Told → Told → Type 0
-GoesOn a b = Went (λ s. Unit {0}) (λ s e. Unit {0}) a b
-
 -- where a folder tells its state, R holds of what it tells before and after
 abbrev pub WhereTold : (Told → Told → Type 0) → Option Told → Option Told → Type 0
 WhereTold R told told' = (a : Told) → told ≡ Some a → (b : Told) × (told' ≡ Some b) × R a b
@@ -43,9 +39,9 @@ WhereTold R told told' = (a : Told) → told ≡ Some a → (b : Told) × (told'
 pub record BringsItems (seed count : ℕ) (a b : Told) : Type 0 where
   pub first : Told
   pub second : Told
-  pub made : GoesOn a first
-  pub moved : GoesOn first second
-  pub moved_back : GoesOn second b
+  pub made : HasGone a first
+  pub moved : HasGone first second
+  pub moved_back : HasGone second b
   pub in_first : HoldsItems kind.Gocryptfs first_root seed count (seen first.state)
   pub in_second : HoldsItems kind.Cryptomator second_root seed count (seen second.state)
   pub in_third : HoldsItems kind.Gocryptfs third_root seed count (seen b.state)
@@ -84,7 +80,7 @@ IsWithin root region = (q : Path) → IsTrue (at_or_below root q) → IsTrue (re
 
 -- the first items stand in the first vault
 abbrev pub MakesItems : ℕ → ℕ → Told → Told → Type 0
-MakesItems seed count a b = GoesOn a b × HoldsItems kind.Gocryptfs first_root seed count (seen b.state)
+MakesItems seed count a b = HasGone a b × HoldsItems kind.Gocryptfs first_root seed count (seen b.state)
 
 -- a migration between these roots is done
 abbrev pub IsMoved : Path → Path → Option Told → Option Told → Type 0
@@ -92,7 +88,7 @@ IsMoved from to told told' = (done : Done) × MovesTree Same from to moving_fold
 
 -- A vault of the kind is made and then the migration to it is done. What is apart from both work folders and the new vault stays.
 pub record Carries (kind : VaultKind) (from to : Path) (a b : Told) : Type 0 where
-  pub goes : GoesOn a b
+  pub goes : HasGone a b
   pub is : (vault : Vault) → IsVault (under to (seen b.state)) phrase vault → kind_of vault ≡ kind
   pub own : HasOwn from a.state → HasOwn to b.state
   pub holds : (first : VaultKind) (seed count : ℕ) → HasOwn from a.state → HoldsItems first from seed count (seen a.state) → HoldsItems kind to seed count (seen b.state)
@@ -102,7 +98,7 @@ pub record Carries (kind : VaultKind) (from to : Path) (a b : Told) : Type 0 whe
 
 -- Its source is retired, with as many items as were moved, and the work folder is gone. What is apart from both stays.
 pub record Leaves (from : Path) (moved retired : ℕ) (a b : Told) : Type 0 where
-  pub goes : GoesOn a b
+  pub goes : HasGone a b
   pub stays : (root : Path) → IsWithin root (apart_from_both from moving_folder) → under root (seen b.state) ≡ under root (seen a.state)
   pub base : seen b.state [] ≡ seen a.state []
   pub gone : seen b.state from ≡ NoEntry

@@ -2,7 +2,8 @@
 use Rattle.std.proofs.Common.{◌≡◌, ◌≢◌, ◌<◌, ◌+◌, ℕ, List, [], ◌∷◌, ◌++◌, length, take, get_or, Option, Some, None, Ok, refl, sym, ap, ◌∙◌, inl, inr, subst, subst₂, append-nil, append_assoc}
 use Rattle.std.proofs.lemmas.List.{take_more}
 use Rattle.std.proofs.lemmas.List.Elements.{Contains-append_left, Contains-append_right, Contains-push_cases}
-use Rattle.content_writing.specs.Content.{Coming, Ending, Whole, content_limit}
+use Rattle.content_writing.specs.Content.{Coming, Ending, Whole}
+use Rattle.vault_faults.specs.Limits.{content_limit}
 use Rattle.vault_contents.specs.Coming.{coming_read}
 use Rattle.content_writing.specs.declared.fault.PutFault.TheVariants.{Taken}
 use Rattle.folder_spec.proofs.Paths.{base_or_child, one_or_not}

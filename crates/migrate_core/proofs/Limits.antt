@@ -30,7 +30,8 @@ use Rattle.tree_match.specs.Trees.{side_of}
 use Rattle.tree_match.specs.declared.answer.Match.{Match}
 use Rattle.tree_match.specs.declared.answer.MatchFault.{MatchFault}
 use Rattle.tree_match.specs.declared.answer.MatchFault.TheVariants as match
-use Rattle.vault_read.specs.Contents.{content_limit, limited_reading}
+use Rattle.vault_read.specs.Contents.{limited_reading}
+use Rattle.vault_faults.specs.Limits.{content_limit}
 use Rattle.vault_read.specs.Laws.{HasOwnFolders}
 use Rattle.vault_spec.specs.Opened.{OpenedVault}
 use Rattle.vault_faults.specs.declared.fault.Limit.TheVariants as limit

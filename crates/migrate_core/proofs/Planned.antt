@@ -4,7 +4,8 @@ use Rattle.std.specs.List.{concat}
 use Rattle.chunk_files.specs.Decoding.{started}
 use Rattle.chunk_files.specs.Keys.{Keys}
 use Rattle.chunk_files.specs.Reading as reading
-use Rattle.content_writing.specs.Content.{Coming, Ending, Whole, IsReady, IsTold, content_limit, still_coming}
+use Rattle.content_writing.specs.Content.{Coming, Ending, Whole, IsReady, IsTold, still_coming}
+use Rattle.vault_faults.specs.Limits.{content_limit}
 use Rattle.vault_contents.specs.Coming.{coming_read, ending_of, held_before}
 use Rattle.vault_contents.specs.VaultContents.{path_of, coming_of}
 use Rattle.vault_contents.specs.declared.vault_content.VaultContent.{VaultContent}

@@ -10,7 +10,8 @@ use Rattle.folder_spec.specs.State.{State}
 use Rattle.folder_spec.specs.View.{View}
 use Rattle.folder_spec.proofs.Paths.{base_or_child}
 use Rattle.folder_spec.specs.Path.{Path}
-use Rattle.content_writing.specs.Content.{Coming, Ending, Whole, content_limit}
+use Rattle.content_writing.specs.Content.{Coming, Ending, Whole}
+use Rattle.vault_faults.specs.Limits.{content_limit}
 use Rattle.vault_contents.specs.Coming.{coming_read, ending_of, held_before}
 use Rattle.content_writing.specs.declared.fault.PutFault.{PutFault}
 use Rattle.content_writing.specs.declared.fault.PutFault.TheVariants as put

@@ -8,7 +8,7 @@ ghost use Rattle.move_journal.specs.Journal.{IsDigest};
 ghost use Rattle.migration_spec.specs.Alone.{Begun};
 ghost use Rattle.vault_spec.specs.Vault.{format_of};
 ghost use Rattle.vault_walk.specs.Survey.{IsOrdered};
-ghost use Rattle.content_writing.specs.Content.{content_limit};
+ghost use Rattle.vault_faults.specs.Limits.{content_limit};
 ghost use Rattle.content_writing.specs.Making.{is_apart};
 ghost use Rattle.vault_contents.specs.Coming.{coming_read};
 ghost use Rattle.vault_contents.specs.VaultContents.{coming_of, path_of};

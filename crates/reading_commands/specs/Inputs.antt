@@ -1,7 +1,7 @@
 -- What is taken of an input.
 use Rattle.std.specs.Prelude.{ℕ, ◌≤◌, List, length, Option}
 use Rattle.std.specs.Io.KnownBytes.{Consumes}
-use Rattle.vault_read.specs.Contents.{content_limit}
+use Rattle.vault_faults.specs.Limits.{content_limit}
 
 -- the most bytes that an input may have
 abbrev pub input_limit : ℕ

@@ -18,7 +18,8 @@ use Rattle.plain_tree.specs.Names as plain
 use Rattle.plain_tree.specs.Order.{path_eq}
 use Rattle.plain_tree.specs.declared.NodeKind.{NodeKind}
 use Rattle.plain_tree.specs.declared.NodeKind.TheVariants as node
-use Rattle.vault_read.specs.Contents.{content_limit, limited_reading}
+use Rattle.vault_read.specs.Contents.{limited_reading}
+use Rattle.vault_faults.specs.Limits.{content_limit}
 use Rattle.vault_spec.specs.Format.{Format, file_bytes}
 use Rattle.vault_spec.specs.Opens.{Opened, NoItem, Content, Tree, opened_by, opened_file}
 use Rattle.vault_spec.specs.Plan.{Planned}

@@ -13,7 +13,8 @@ use Rattle.mapped_trees.specs.Plans as plans
 use Rattle.plain_tree.specs.Names as plain
 use Rattle.plain_tree.specs.declared.NodeKind.{NodeKind}
 use Rattle.plain_tree.specs.declared.NodeKind.TheVariants as node
-use Rattle.vault_read.specs.Contents.{content_limit, limited_reading}
+use Rattle.vault_read.specs.Contents.{limited_reading}
+use Rattle.vault_faults.specs.Limits.{content_limit}
 use Rattle.vault_spec.proofs.Mapped.{contains_mapped}
 use Rattle.vault_spec.specs.Alike.{place_of}
 use Rattle.vault_spec.specs.Format.{Format, file_bytes}

@@ -8,7 +8,8 @@ use Rattle.chunk_files.specs.Reading.{Ending}
 use Rattle.folder_spec.specs.Path.{Path}
 use Rattle.plain_tree.specs.Names as plain
 use Rattle.plain_tree.specs.Order.{path_cmp, path_eq}
-use Rattle.vault_read.specs.Contents.{Suits, content_limit, limited_reading, still}
+use Rattle.vault_read.specs.Contents.{Suits, limited_reading, still}
+use Rattle.vault_faults.specs.Limits.{content_limit}
 use Rattle.vault_faults.specs.declared.fault.CatFault.{CatFault}
 use Rattle.vault_faults.specs.declared.fault.CatFault.TheVariants as cat
 use Rattle.vault_spec.specs.Plan.{Planned}

@@ -10,7 +10,8 @@ use Rattle.chunk_files.specs.Pieces.{pieces, first_pieces}
 use Rattle.chunk_files.specs.Reading.{Reading, Whole, Wanting, Faulty, ends}
 use Rattle.chunk_files.specs.Contents.{read_chunk, read_chunks, read_on, read_behind, read_by, readable, read_file}
 use Rattle.chunk_files.proofs.LayoutSizes.{sizes_fit}
-use Rattle.vault_read.specs.Contents.{content_limit, limited_reading}
+use Rattle.vault_read.specs.Contents.{limited_reading}
+use Rattle.vault_faults.specs.Limits.{content_limit}
 use Rattle.vault_spec.proofs.Endings.{whole_ends}
 
 -- where reading stops for want of bytes, the file has more than are read

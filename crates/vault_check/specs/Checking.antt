@@ -5,7 +5,8 @@ use Rattle.chunk_files.specs.declared.fault.ChunkFault.{ChunkFault}
 use Rattle.chunk_files.specs.Reading.{Wanting}
 use Rattle.folder_spec.specs.Path.{Path}
 use Rattle.folder_spec.specs.View.{View, FileOf}
-use Rattle.vault_read.specs.Contents.{content_limit, limited_reading}
+use Rattle.vault_read.specs.Contents.{limited_reading}
+use Rattle.vault_faults.specs.Limits.{content_limit}
 use Rattle.vault_spec.specs.Findings.{IsFinding, IsDamaged, finding_of, is_fault_of_structure, number_of}
 use Rattle.vault_spec.specs.Format.{Format, Directory}
 use Rattle.vault_spec.specs.Reached.{IsReached}

@@ -11,7 +11,7 @@ use Rattle.chunk_files.specs.Decoding.{started}
 use Rattle.folder_spec.specs.Path.{Path}
 use Rattle.folder_spec.specs.View.{FileOf}
 use Rattle.vault_read.specs.Contents.{limited_reading}
-use Rattle.content_writing.specs.Content.{content_limit}
+use Rattle.vault_faults.specs.Limits.{content_limit}
 use Rattle.vault_contents.specs.Coming.{coming_read, held_before}
 
 readings_fit : ReadingsAreNoLonger → (keys : Keys) (bytes : List ℕ) → length (concat (limited_reading keys bytes).chunks) ≤ content_limit

@@ -1,6 +1,6 @@
 -- Laws of the types of this crate (private contracts only).
 use Rattle.std.specs.Prelude.{◌≤◌}
-use Rattle.content_writing.specs.Content.{content_limit}
+use Rattle.vault_faults.specs.Limits.{content_limit}
 use Rattle.vault_contents.specs.declared.vault_content.VaultContent.{VaultContent}
 
 pub vault_contents_fit : (content : VaultContent) → content.room ≤ content_limit

@@ -4,7 +4,7 @@ ghost use Rattle.chunk_files.specs.Decoding.{started};
 ghost use Rattle.chunk_files.specs.Keys.{Keys};
 ghost use Rattle.folder_spec.specs.Path.{Path};
 ghost use Rattle.folder_spec.specs.View.{FileOf};
-ghost use Rattle.content_writing.specs.Content.{content_limit};
+ghost use Rattle.vault_faults.specs.Limits.{content_limit};
 ghost use Rattle.vault_read.specs.Contents.{limited_reading};
 ghost use Rattle.vault_contents.specs.Coming.{coming_read, held_before};
 

@@ -3,7 +3,7 @@ ghost use Rattle.std.specs.Prelude.{◌≡◌, ◌≤◌, [], Some, None, IfOk, 
 ghost use Rattle.chunk_files.specs.Decoding.{started};
 ghost use Rattle.folder_spec.specs.View.{Found};
 ghost use Rattle.vault_spec.specs.Vault.{format_of};
-ghost use Rattle.content_writing.specs.Content.{content_limit};
+ghost use Rattle.vault_faults.specs.Limits.{content_limit};
 ghost use Rattle.vault_contents.specs.Coming.{coming_read, held_in};
 
 use crate::held::Held;

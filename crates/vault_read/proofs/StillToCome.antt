@@ -8,7 +8,8 @@ use Rattle.chunk_files.specs.Reading.{Ending, Reading, Whole, Wanting, Faulty, e
 use Rattle.chunk_files.specs.Decoding.{Decoding, GivesNext, LeavesAll, MayFollow, chunks_before, left, read_at}
 use Rattle.folder_spec.specs.View.{Found, FileOf}
 use Rattle.folder_model.specs.Answers.{Reads}
-use Rattle.vault_read.specs.Contents.{Suits, Passes, Stops, still, content_limit}
+use Rattle.vault_read.specs.Contents.{Suits, Passes, Stops, still}
+use Rattle.vault_faults.specs.Limits.{content_limit}
 use Rattle.vault_read.specs.Reading.{FeedsOn, PassesOver}
 
 abbrev pub still_of : ℕ → Decoding → List ℕ → Reading

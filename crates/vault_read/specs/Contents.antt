@@ -17,14 +17,11 @@ use Rattle.vault_spec.specs.Find.{Refusal, find}
 use Rattle.vault_spec.specs.Find as spec
 use Rattle.vault_read.specs.Finding.{Refuses}
 use Rattle.vault_faults.specs.declared.fault.FindFault.{FindFault}
+use Rattle.vault_faults.specs.Limits.{content_limit}
 use Rattle.vault_faults.specs.declared.fault.FindFault.TheVariants as finds
 use Rattle.vault_faults.specs.declared.fault.Limit.TheVariants.{Depth, Items, Length, Input}
 use Rattle.vault_faults.specs.declared.fault.CatFault.{CatFault}
 use Rattle.vault_faults.specs.declared.fault.CatFault.TheVariants.{Find, Damaged, Limit, Sink, Failed, NoMemory}
-
--- the most bytes of a content file, 2^40
-abbrev pub content_limit : ℕ
-content_limit = 1099511627776
 
 -- what a content file gives, of which no more bytes than the limit are read
 abbrev pub limited_reading : Keys → List ℕ → Reading

@@ -11,7 +11,8 @@ use Rattle.vault_spec.specs.Standing.{File, standing}
 use Rattle.folder_spec.specs.declared.FolderFault.{FolderFault}
 use Rattle.chunk_files.specs.Reading.{Reading, Whole, Wanting, Faulty, chunk_before}
 use Rattle.chunk_files.specs.Decoding.{Decoding, chunks_before}
-use Rattle.vault_read.specs.Contents.{content_limit, Suits, Passes, Stops, still}
+use Rattle.vault_read.specs.Contents.{Suits, Passes, Stops, still}
+use Rattle.vault_faults.specs.Limits.{content_limit}
 use Rattle.vault_faults.specs.declared.fault.CatFault.{CatFault}
 use Rattle.vault_faults.specs.declared.fault.CatFault.TheVariants.{Damaged, Limit, NoMemory}
 use Rattle.vault_faults.specs.declared.fault.Limit.TheVariants.{Length}

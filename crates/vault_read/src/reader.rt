@@ -6,7 +6,8 @@ ghost use Rattle.folder_spec.specs.View.{FileOf};
 ghost use Rattle.folder_spec.specs.Seen.{IfSeen, ShowsFile};
 ghost use Rattle.folder_model.specs.Answers.{CountsAbove};
 ghost use Rattle.vault_spec.specs.Vault.{format_of};
-ghost use Rattle.vault_read.specs.Contents.{content_limit, limited_reading, Suits, IsBeingRead, still, Gives, IsReaderFault};
+ghost use Rattle.vault_read.specs.Contents.{limited_reading, Suits, IsBeingRead, still, Gives, IsReaderFault};
+ghost use Rattle.vault_faults.specs.Limits.{content_limit};
 ghost use Rattle.vault_read.specs.Reading.{AnswersGiven, IsInStep, FeedsOn, GivesGiven, GoesOn};
 
 use crate::vault::Vault;

@@ -1,5 +1,6 @@
 use Rattle.std.proofs.Common.{◌≡◌, ◌≤◌, ◌+◌, length}
-use Rattle.content_writing.specs.Content.{IsReady, still_coming, content_limit}
+use Rattle.content_writing.specs.Content.{IsReady, still_coming}
+use Rattle.vault_faults.specs.Limits.{content_limit}
 use Rattle.content_writing.specs.Streaming.{IsUnderway}
 use Rattle.content_writing.proofs.writing.write_chunks.Given as goal
 

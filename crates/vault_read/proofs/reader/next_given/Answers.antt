@@ -2,7 +2,7 @@ use Rattle.std.proofs.Common.{◌≡◌, ◌≤◌, ◌∙◌, Ok, sym, ap, subs
 use Rattle.chunk_files.specs.declared.step.Step.TheVariants.{More, Chunk}
 use Rattle.chunk_files.specs.Decoding.{GivesNext}
 use Rattle.folder_spec.specs.Seen.{IsSeen}
-use Rattle.vault_read.specs.Contents.{content_limit}
+use Rattle.vault_faults.specs.Limits.{content_limit}
 use Rattle.vault_read.proofs.StillToCome.{over_left, over_empty, over_chunk, over_end, over_fault, over_limit, over_fed}
 use Rattle.vault_read.proofs.reader.next_given.Goals as goal
 

@@ -25,10 +25,14 @@ impl Plain {
         }
     }
 
-    // Keeps a directory, if it is one and there is memory for it.
+    // Keeps a directory that was listed, if it is one and there is memory for it, and else lets go of it.
     pub fn keep(&mut self, dir: &FPath, entries: &[Entry]) {
         if entries.iter().all(|entry| entry.kind != Kind::Other) {
             let _ = self.add(dir);
+        } else {
+            self.last = None;
+            self.other = None;
+            self.dirs.remove(dir);
         }
     }
 

@@ -13,23 +13,30 @@ use std::marker::Model;
 
 pub mod laws;
 
-/// EME under one AES-256 key. A clause sees the key's 32 bytes.
+/// EME under one AES-256 key, with the first mask made of it. A clause sees the key's 32 bytes.
 #[derive(Drop)]
 pub struct Eme {
     key: Key256,
+    mask: Block,
 }
 
 impl Model for Eme {
+    ghost use Rattle.std.specs.Prelude.{◌≡◌, ℕ, List};
+    ghost use Rattle.eme_mode.specs.Eme.{first_mask};
+
     ghost Value = { List ℕ };
 
     ghost view = { λ eme. eme.key };
+
+    ghost invariant = { λ eme. eme.mask ≡ first_mask eme.key };
 }
 
 impl Eme {
     pub fn new(key: Key256) -> Eme
         ensures { result ≡ key }
     {
-        Eme { key }
+        let mask = first_mask(&key);
+        Eme { key, mask }
     }
 
     /// Encrypts 1 to 128 blocks in place.
@@ -38,15 +45,14 @@ impl Eme {
         requires most { length blocks.old ≤ 128 }
         ensures { blocks.new ≡ eme256 self.now tweak.now blocks.old }
     {
-        let mask = first_mask(&self.key);
-        add_masks(blocks, &mask);
+        add_masks(blocks, &self.mask);
         self.key.encrypt_blocks(blocks);
         let sum = sum_of(tweak, blocks);
         let mut inner = [sum];
         self.key.encrypt_blocks(&mut inner);
         mix(tweak, &sum, &inner[0], blocks);
         self.key.encrypt_blocks(blocks);
-        add_masks(blocks, &mask);
+        add_masks(blocks, &self.mask);
     }
 
     /// Decrypts 1 to 128 blocks in place: they become those that encrypt to them.
@@ -58,15 +64,14 @@ impl Eme {
     {
         are_blocks(blocks);
         directions_undo_each_other();
-        let mask = first_mask(&self.key);
-        add_masks(blocks, &mask);
+        add_masks(blocks, &self.mask);
         self.key.decrypt_blocks(blocks);
         let sum = sum_of(tweak, blocks);
         let mut inner = [sum];
         self.key.decrypt_blocks(&mut inner);
         mix(tweak, &sum, &inner[0], blocks);
         self.key.decrypt_blocks(blocks);
-        add_masks(blocks, &mask);
+        add_masks(blocks, &self.mask);
     }
 }
 

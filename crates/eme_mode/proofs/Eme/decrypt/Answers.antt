@@ -7,7 +7,7 @@ use Rattle.eme_mode.proofs.Eme.decrypt.Goals as goal
 
 pub returns-clause-decrypted : goal.returns-clause-decrypted
 returns-clause-decrypted c =
-    rw (← c.self.view_is, ← c.first_mask-mask.ensures)
+    rw (← c.self.view_is, ← c.self.invariant)
     (eme-steps (inverse_aes256 c.self.inside.key) _ _ _ _ _ _ _ _ _ _ c.add_masks.ensures c.decrypt_blocks.ensures c.sum_of-sum.ensures
     (ap (λ blocks. get_or blocks 0 []) c.decrypt_blocks-2.ensures) c.mix.ensures c.decrypt_blocks-3.ensures c.add_masks-2.ensures)
 

@@ -35,19 +35,25 @@ impl From<AllocError> for SivFault {
     }
 }
 
-/// SIV under two keys of a cipher, the key of S2V and the key of counter mode.
+/// SIV under two keys of a cipher, the key of S2V and the key of counter mode, with the block that S2V begins with.
 #[derive(Drop)]
 pub struct Siv<C: Cipher> {
     mac: Cmac<C>,
+    first: Block,
     ctr: C,
 }
 
 impl<C: Cipher> Model for Siv<C> {
+    ghost use Rattle.std.specs.Prelude.{◌≡◌};
+    ghost use Rattle.siv_mode.specs.Blocks.{zero_block};
+    ghost use Rattle.siv_mode.specs.Cmac.{cmac};
     ghost use Rattle.siv_mode.specs.Keys.{Keys};
 
     ghost Value = { Keys C };
 
     ghost view = { λ s. record { mac = s.mac; ctr = s.ctr } };
+
+    ghost invariant = { λ s. s.first ≡ cmac (C.image s.mac) zero_block };
 }
 
 impl<C: Cipher> Siv<C> {
@@ -56,10 +62,9 @@ impl<C: Cipher> Siv<C> {
         ensures mac { result.mac ≡ mac }
         ensures ctr { result.ctr ≡ ctr }
     {
-        Siv {
-            mac: Cmac::new(mac),
-            ctr,
-        }
+        let mac = Cmac::new(mac);
+        let first = mac.of(&[0; 16]);
+        Siv { mac, first, ctr }
     }
 
     /// S2V of an associated string, where there is one, and the last string (section 2.4). Takes no
@@ -67,7 +72,7 @@ impl<C: Cipher> Siv<C> {
     pub fn s2v(&self, ad: Option<&[u8]>, string: &[u8]) -> Block
         ensures { result ≡ s2v_of (C.image self.now.mac) (associated ad.entry) string.now }
     {
-        s2v(&self.mac, ad, string)
+        s2v(&self.mac, &self.first, ad, string)
     }
 
     /// The text sealed with an associated string, where there is one: 16 bytes more than the text

@@ -9,26 +9,25 @@ use super::blocks::{doubled, padded, sum, whole};
 use super::mac::Cmac;
 use aes_lanes::{Block, Cipher};
 
-// S2V of an associated string, where there is one, and the last string.
-pub fn s2v<C: Cipher>(mac: &Cmac<C>, ad: Option<&[u8]>, string: &[u8]) -> Block
+// S2V of an associated string, where there is one, and the last string. `first` is CMAC of a block of zeros.
+pub fn s2v<C: Cipher>(mac: &Cmac<C>, first: &Block, ad: Option<&[u8]>, string: &[u8]) -> Block
+    requires { first.now ≡ cmac_of (C.image mac.now) zero_block }
     ensures { result ≡ s2v_of (C.image mac.now) (associated ad.entry) string.now }
 {
-    let sum = summed(mac, ad);
+    let sum = summed(mac, first, ad);
     if string.len() < 16 {
         return mac.of(&short_text(&sum, string));
     }
     cmac_of_long(mac, &sum, string)
 }
 
-// The value D before the last string.
-fn summed<C: Cipher>(mac: &Cmac<C>, ad: Option<&[u8]>) -> Block
-    ensures { result
-        ≡ summed_of (C.image mac.now) (cmac_of (C.image mac.now) zero_block) (associated ad.entry) }
+// The value D before the last string, where it begins with `first`.
+fn summed<C: Cipher>(mac: &Cmac<C>, first: &Block, ad: Option<&[u8]>) -> Block
+    ensures { result ≡ summed_of (C.image mac.now) first.now (associated ad.entry) }
 {
-    let first = mac.of(&[0; 16]);
     match ad {
-        None => first,
-        Some(string) => sum(&doubled(&first), &mac.of(string)),
+        None => *first,
+        Some(string) => sum(&doubled(first), &mac.of(string)),
     }
 }
 

@@ -4,7 +4,7 @@ ghost use Rattle.std.specs.Prelude.{◌≡◌, ◌≢◌, ℕ, ◌+◌, ◌-◌,
 ghost use Rattle.std.specs.Int.{IsPowerOfTwo};
 ghost use Rattle.std.specs.Simd.Lanes.{zip2};
 ghost use Rattle.kdf_suite.specs.Diagonals.{IsWhole, in_order, spread, words_of};
-ghost use Rattle.kdf_suite.specs.RoMix.{block_at, block_mix, integerify, mixed_times, ro_mix};
+ghost use Rattle.kdf_suite.specs.RoMix.{block_at, block_mix, integerify, mixed_times, mixed_turns, ro_mix};
 ghost use Rattle.kdf_suite.specs.Salsa.{salsa20_8};
 ghost use Rattle.kdf_suite.specs.Table.{IsTable};
 
@@ -78,8 +78,24 @@ fn block_mix(input: &[u32], output: &mut [u32], r: usize)
     }
 }
 
-// The table of the first n mixes of `x`, one after another; `x` is mixed n times. `spare` is as
-// long as `x`.
+// A row more of the table of `first`: `x`, which is mixed into `out`.
+fn add_row(table: &mut Vec<u32>, x: &[u32], out: &mut [u32], r: usize) -> Result<(), AllocError>
+    requires low { 1 ≤ r }
+    requires x { length x.now ≡ 32 * r }
+    requires out { length out.old ≡ 32 * r }
+    ensures table { IfOk result (λ _. (first : List ℕ) (i : ℕ) → IsTable r first i table.old.items
+        → in_order (32 * r) x.now ≡ mixed_times r first i
+        → IsTable r first (i + 1) table.new.items) }
+    ensures mixed { IfOk result (λ _. (first : List ℕ) (i : ℕ) → in_order (32 * r) x.now ≡ mixed_times r first i
+        → in_order (32 * r) out.new ≡ mixed_times r first (i + 1)) }
+{
+    table.extend_from_slice(x)?;
+    block_mix(x, out, r);
+    Ok(())
+}
+
+// The table of the first n mixes of `x`, one after another; `x` is mixed n times, to `spare` and back by
+// turns. `spare` is as long as `x`.
 fn fill_table(
     alloc: Global,
     x: &mut [u32],
@@ -96,9 +112,12 @@ fn fill_table(
         ≡ mixed_times r (in_order (32 * r) x.old) n) }
 {
     let mut table = Vec::with_capacity(alloc, PAIR_WORDS * r * n)?;
-    'rows: for _i in 0..n {
-        table.extend_from_slice(x)?;
-        block_mix(x, spare, r);
+    'rows: for _i in 0..n / 2 {
+        add_row(&mut table, x, spare, r)?;
+        add_row(&mut table, spare, x, r)?;
+    }
+    if n % 2 == 1 {
+        add_row(&mut table, x, spare, r)?;
         x.copy_from_slice(spare);
     }
     Ok(table)
@@ -117,6 +136,23 @@ fn place_in_table(x: &[u32], n: usize, r: usize) -> usize
     x[PAIR_WORDS * r - BLOCK_WORDS] as usize % n
 }
 
+// A turn of the second loop, over the table of `first`: from `x`, which becomes the sum, to `out`.
+fn turn(table: &[u32], x: &mut [u32], out: &mut [u32], n: usize, r: usize)
+    requires low { 1 ≤ r }
+    requires power { IsPowerOfTwo n }
+    requires high { n < 2 ^ 32 }
+    requires table { length table.now ≡ 32 * r * n }
+    requires x { length x.old ≡ 32 * r }
+    requires out { length out.old ≡ 32 * r }
+    ensures { (first : List ℕ) (i : ℕ) → IsTable r first n table.now
+        → in_order (32 * r) x.old ≡ mixed_turns n r first i
+        → in_order (32 * r) out.new ≡ mixed_turns n r first (i + 1) }
+{
+    let start = PAIR_WORDS * r * place_in_table(x, n, r);
+    xor_words(x, &table[start..start + PAIR_WORDS * r]);
+    block_mix(x, out, r);
+}
+
 // The n turns of the second loop, over the table of `first`, which is mixed n times in `x`.
 fn mix_with_table(table: &[u32], x: &mut [u32], spare: &mut [u32], n: usize, r: usize)
     requires low { 1 ≤ r }
@@ -129,10 +165,12 @@ fn mix_with_table(table: &[u32], x: &mut [u32], spare: &mut [u32], n: usize, r: 
         → in_order (32 * r) x.old ≡ mixed_times r first n
         → in_order (32 * r) x.new ≡ ro_mix n r first }
 {
-    'turns: for _i in 0..n {
-        let start = PAIR_WORDS * r * place_in_table(x, n, r);
-        xor_words(x, &table[start..start + PAIR_WORDS * r]);
-        block_mix(x, spare, r);
+    'turns: for _i in 0..n / 2 {
+        turn(table, x, spare, n, r);
+        turn(table, spare, x, n, r);
+    }
+    if n % 2 == 1 {
+        turn(table, x, spare, n, r);
         x.copy_from_slice(spare);
     }
 }

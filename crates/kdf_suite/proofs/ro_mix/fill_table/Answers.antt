@@ -1,7 +1,7 @@
-use Rattle.std.proofs.Common.{◌∙◌, ◌*◌, add-one, ap, arith, refl}
+use Rattle.std.proofs.Common.{◌≡◌, ◌+◌, ◌*◌, arith, refl}
 use Rattle.kdf_suite.specs.Diagonals.{in_order}
-use Rattle.kdf_suite.specs.RoMix.{block_mix, mixed_times}
-use Rattle.kdf_suite.proofs.Tables.{IsTable-more, IsTable-none}
+use Rattle.kdf_suite.specs.RoMix.{mixed_times}
+use Rattle.kdf_suite.proofs.Tables.{IsTable-none}
 use Rattle.kdf_suite.proofs.ro_mix.fill_table.Goals as goal
 
 pub rows-init : goal.rows-init
@@ -9,8 +9,12 @@ unfolding mixed_times
 rows-init c = record { table = IsTable-none _ _ _ c.in_ok-table.ensures.items; mixed = refl }
 
 pub rows-preserved : goal.rows-preserved
-unfolding mixed_times
-rows-preserved c = record {
-  table = rw c.in_ok-extend_from_slice.ensures.items (IsTable-more _ _ _ _ c.rows.x (omega (arith, c.rows.auto.x, c.requires.x)) c.rows.invariant.mixed c.rows.invariant.table);
-  mixed = rw add-one (ap (in_order (32 * c.args.r)) c.copy_from_slice.ensures.after ∙ c.block_mix.ensures ∙ ap (block_mix c.args.r) c.rows.invariant.mixed);
-}
+rows-preserved c =
+    let first = in_order (32 * c.args.r) c.args.x.now in
+    let next : 2 * c.rows._i + 1 + 1 ≡ 2 * (c.rows._i + 1) = omega arith in
+    let now = c.rows.invariant.mixed in
+    let after = c.in_ok-add_row.ensures.mixed first (2 * c.rows._i) now in
+    rw (← next) (record {
+      table = c.in_ok-add_row-2.ensures.table first (2 * c.rows._i + 1) (c.in_ok-add_row.ensures.table first (2 * c.rows._i) c.rows.invariant.table now) after;
+      mixed = c.in_ok-add_row-2.ensures.mixed first (2 * c.rows._i + 1) after;
+    })

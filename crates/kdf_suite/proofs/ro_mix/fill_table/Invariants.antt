@@ -6,6 +6,6 @@ use Rattle.kdf_suite.proofs.ro_mix.fill_table.Given as goal
 
 abbrev pub invariant-rows : goal.invariant-rows
 invariant-rows l = record {
-  table : IsTable l.r (in_order (32 * l.r) l.initial.x) l._i l.table.items;
-  mixed : in_order (32 * l.r) l.x ≡ mixed_times l.r (in_order (32 * l.r) l.initial.x) l._i;
+  table : IsTable l.r (in_order (32 * l.r) l.initial.x) (2 * l._i) l.table.items;
+  mixed : in_order (32 * l.r) l.x ≡ mixed_times l.r (in_order (32 * l.r) l.initial.x) (2 * l._i);
 }

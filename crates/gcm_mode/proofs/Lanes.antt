@@ -157,49 +157,6 @@ pair_of_two a b v e x y = (
 pub whole_pair : (a b : List ℕ) → IsBlock a → IsBlock b → pick_l 0 (a ++ b) (range_with_len 0 32) ≡ a ++ b
 whole_pair a b x y = pick_l_whole 0 (a ++ b) 32 (omega (arith, length-append a b, x.sixteen, y.sixteen))
 
--- the sum of both lanes
-half : (v : List ℕ) (at : ℕ) (ks : List ℕ) → ks ≡ range_with_len at 16 → at + 16 ≤ 32 → T (all_below 32 ks) → IsPair v → pick_l 0 (v ++ v) ks ≡ chunk at 16 v
-half v at ks e le within pair =
-    pick_l_left 0 v v 32 ks pair.long within ∙ ap (pick_l 0 v) e ∙ pick_l-range_with_len 0 v at 16 (omega (arith, pair.long))
-
-sum_of_halves : (v : List ℕ) → IsPair v → IsBlock (zip2 bit_xor (chunk 0 16 v) (chunk 16 16 v)) × (block_number (zip2 bit_xor (chunk 0 16 v) (chunk 16 16 v)) ≡ bit_xor (lane 0 v) (lane 1 v))
-unfolding lane
-sum_of_halves v pair =
-    let a : List ℕ = chunk 0 16 v in
-    let b : List ℕ = chunk 16 16 v in
-    let long_a : length a ≡ 16 = length-chunk 0 16 v (omega (arith, pair.long)) in
-    let long_b : length b ≡ 16 = length-chunk 16 16 v (omega (arith, pair.long)) in
-    let long : length (zip2 bit_xor a b) ≡ 16 = length-zip2 bit_xor a b (long_a ∙ sym long_b) ∙ long_a in
-    let each : (p : ℕ) → p < 16 → get_or (zip2 bit_xor a b) p 0 ≡ bit_xor (get_or v (16 * 0 + p) 0) (get_or v (16 * 1 + p) 0) =
-    λ p lt.
-    let in_a : p < length a = omega arith in
-    let in_b : p < length b = omega arith in
-    let first : 0 + p ≡ 16 * 0 + p = omega arith in
-    get_or-zip2 bit_xor a b p 0 0 0 in_a in_b
-    ∙ ap₂ bit_xor (get_or-chunk 0 16 v p 0 lt ∙ ap (λ (k : ℕ). get_or v k 0) first) (get_or-chunk 16 16 v p 0 lt) in (
-      record {
-        sixteen = long;
-        bytes = λ p. elim (cases_lt p 16) [
-          | inl lt ↦ rw (each p lt) (xor_lt 8 (get_or v (16 * 0 + p) 0) (get_or v (16 * 1 + p) 0) (pair.bytes (16 * 0 + p)) (pair.bytes (16 * 1 + p)))
-          | inr ge ↦
-              let past : length (zip2 bit_xor a b) ≤ p = omega arith in
-              rw (get_or_past (zip2 bit_xor a b) p 0 past) (lit< tt)
-        ];
-      },
-      block_number-is (zip2 bit_xor a b)
-          ∙ number_of-same (λ p. get_or (zip2 bit_xor a b) p 0) (λ p. bit_xor (get_or v (16 * 0 + p) 0) (get_or v (16 * 1 + p) 0)) 16 each
-          ∙ number_of-xor (λ p. get_or v (16 * 0 + p) 0) (λ p. get_or v (16 * 1 + p) 0) 16 (λ p lt. pair.bytes (16 * 0 + p)) (λ p lt. pair.bytes (16 * 1 + p)),
-    )
-
-sum_of_parts : (v a b : List ℕ) → IsPair v → a ≡ chunk 0 16 v → b ≡ chunk 16 16 v → IsBlock (zip2 bit_xor a b) × (block_number (zip2 bit_xor a b) ≡ bit_xor (lane 0 v) (lane 1 v))
-sum_of_parts v a b pair first second = rw (first, second) (sum_of_halves v pair)
-
-pub sum_of_lanes : (v : List ℕ) → IsPair v → let sum = zip2 bit_xor (pick_l 0 (v ++ v) (range_with_len 0 16)) (pick_l 0 (v ++ v) (range_with_len 16 16)) in IsBlock sum × (block_number sum ≡ bit_xor (lane 0 v) (lane 1 v))
-sum_of_lanes v pair =
-    let first = half v 0 (range_with_len 0 16) refl (omega arith) tt pair in
-    let second = half v 16 (range_with_len 16 16) refl (omega arith) tt pair in
-    sum_of_parts v (pick_l 0 (v ++ v) (range_with_len 0 16)) (pick_l 0 (v ++ v) (range_with_len 16 16)) pair first second
-
 -- a look-up in each lane
 pub look-at : (table js : List ℕ) (k : ℕ) → AreNibbles js → k < 32 → get_or (swz_l w8 16 table 0 js) k 0 ≡ get_or table (16 * ((0 + k) / 16) + get_or js k 0) 0
 look-at table js k nibbles lt =
@@ -314,6 +271,25 @@ IsBlock-bytes v long each = record {
         rw (get_or_past v p 0 past) (lit< tt)
   ];
 }
+
+-- one lane of a vector
+lane_chunk : (v ks : List ℕ) (l : ℕ) → l < 2 → ks ≡ range_with_len (16 * l) 16 → T (all_below 32 ks) → IsPair v
+    → IsBlock (pick_l 0 (v ++ v) ks) × (block_number (pick_l 0 (v ++ v) ks) ≡ lane l v)
+lane_chunk v ks l two e within pair =
+    let part : List ℕ = chunk (16 * l) 16 v in
+    let behind : 16 * l + 16 ≤ length v = omega (arith, pair.long) in
+    let is : pick_l 0 (v ++ v) ks ≡ part = pick_l_left 0 v v 32 ks pair.long within ∙ ap (pick_l 0 v) e ∙ pick_l-range_with_len 0 v (16 * l) 16 behind in
+    let each : (p : ℕ) → p < 16 → get_or part p 0 ≡ get_or v (16 * l + p) 0 = λ p lt. get_or-chunk (16 * l) 16 v p 0 lt in
+    rw is (
+      IsBlock-bytes part (length-chunk (16 * l) 16 v behind) (λ p lt. rw (each p lt) (pair.bytes (16 * l + p))),
+      block_number-is part ∙ sym (lane-same l v (λ p. get_or part p 0) (λ p lt. sym (each p lt))),
+    )
+
+pub first_lane : (v : List ℕ) → IsPair v → let block = pick_l 0 (v ++ v) (range_with_len 0 16) in IsBlock block × (block_number block ≡ lane 0 v)
+first_lane v pair = lane_chunk v (range_with_len 0 16) 0 (omega arith) refl tt pair
+
+pub second_lane : (v : List ℕ) → IsPair v → let block = pick_l 0 (v ++ v) (range_with_len 16 16) in IsBlock block × (block_number block ≡ lane 1 v)
+second_lane v pair = lane_chunk v (range_with_len 16 16) 1 (omega arith) refl tt pair
 
 pub IsBlock-splat : (n : ℕ) → n < 256 → IsBlock (replicate 16 n)
 IsBlock-splat n byte = IsBlock-bytes (replicate 16 n) (length-replicate {A = ℕ} 16 n) (λ p lt. rw (get_or-replicate {A = ℕ} 16 p n 0 lt) byte)

@@ -1,10 +1,10 @@
 -- Sums of products of blocks and powers, from the bytes of the products with their bytes.
-use Rattle.std.proofs.Common.{◌≡◌, ℕ, ◌+◌, ◌*◌, ◌<◌, ◌≤◌, List, [], ◌∷◌, length, get_or, drop, bit_xor, refl, sym, ap, ap₂, ◌∙◌, arith}
+use Rattle.std.proofs.Common.{◌≡◌, ℕ, suc, ◌+◌, ◌*◌, ◌<◌, ◌≤◌, List, [], ◌∷◌, length, get_or, drop, bit_xor, refl, sym, ap, ap₂, ◌∙◌, arith}
 use lib.Bits.{xor_assoc, xor_self, xor_zero_l, xor_zero_r}
 use Rattle.std.proofs.lemmas.List.{drop_all, drop_more}
 use Rattle.gcm_mode.specs.Field.{product, times_power}
-use Rattle.gcm_mode.specs.Pairs.{bytes_with, lane}
-use Rattle.gcm_mode.specs.Products.{bytes_sum, products_sum}
+use Rattle.gcm_mode.specs.Pairs.{IsPair, bytes_with, lane}
+use Rattle.gcm_mode.specs.Products.{HaveRows, bytes_sum, products_sum}
 use Rattle.gcm_mode.specs.Tables.{block_in, byte_in}
 use Rattle.gcm_mode.specs.declared.vectors.Nibbles.{Nibbles}
 use Rattle.gcm_mode.specs.declared.tables.Pair.{Pair}
@@ -18,29 +18,29 @@ byte_in-lt l x p =
     let low = x.low_nibbles.nibbles (16 * l + p) in
     omega (arith, high, low)
 
-one_product : (l : ℕ) (p : Pair) (x : Nibbles) → sum_below (λ b. times_power (8 * b) (bytes_with b (lane l p.powers) (byte_in l x))) 16 ≡ product (block_in l x) (lane l p.powers)
+one_product : (l : ℕ) (p : Pair) (x : Nibbles) → IsPair p.powers → sum_below (λ b. times_power (8 * b) (bytes_with b (lane l p.powers) (byte_in l x))) 16 ≡ product (block_in l x) (lane l p.powers)
 unfolding block_in
-one_product l p x = product-bytes (byte_in l x) (lane l p.powers) (λ k lt. byte_in-lt l x k) (lane-lt l p.powers p.powers_pair)
+one_product l p x pair = product-bytes (byte_in l x) (lane l p.powers) (λ k lt. byte_in-lt l x k) (lane-lt l p.powers pair)
 
 nothing : sum_below (λ b. times_power (8 * b) 0) 16 ≡ 0
 nothing =
     sum_below-same (λ b. times_power (8 * b) 0) (λ b. 0) 16 (λ b lt. times_power-xor (8 * b) 0 0 ∙ xor_self (times_power (8 * b) 0))
     ∙ sum_below-zero 16
 
-all_products : (l : ℕ) (ps : List Pair) (xs : List Nibbles) → sum_below (λ b. times_power (8 * b) (bytes_sum b l ps xs)) 16 ≡ products_sum l ps xs
+all_products : (l : ℕ) (ps : List Pair) (xs : List Nibbles) → HaveRows ps → sum_below (λ b. times_power (8 * b) (bytes_sum b l ps xs)) 16 ≡ products_sum l ps xs
 unfolding bytes_sum products_sum
-all_products l [] xs = nothing
-all_products l (p ∷ ps) [] = nothing
-all_products l (p ∷ ps) (x ∷ xs) =
+all_products l [] xs rows = nothing
+all_products l (p ∷ ps) [] rows = nothing
+all_products l (p ∷ ps) (x ∷ xs) rows =
     let first : ℕ → ℕ = λ b. bytes_with b (lane l p.powers) (byte_in l x) in
     let rest : ℕ → ℕ = λ b. bytes_sum b l ps xs in
     sum_below-same (λ b. times_power (8 * b) (bit_xor (first b) (rest b))) (λ b. bit_xor (times_power (8 * b) (first b)) (times_power (8 * b) (rest b))) 16 (λ b lt. times_power-xor (8 * b) (first b) (rest b))
     ∙ sum_below-xor (λ b. times_power (8 * b) (first b)) (λ b. times_power (8 * b) (rest b)) 16
-    ∙ ap₂ bit_xor (one_product l p x) (all_products l ps xs)
+    ∙ ap₂ bit_xor (one_product l p x (rows p 0 (omega arith)).pair) (all_products l ps xs (λ none i lt. rows none (suc i) (omega arith)))
 
 -- what is gathered of all bytes
-pub gathered-products : (l : ℕ) (ps : List Pair) (xs : List Nibbles) → gathered (λ b. bytes_sum b l ps xs) 15 ≡ products_sum l ps xs
-gathered-products l ps xs = gathered-all (λ b. bytes_sum b l ps xs) ∙ all_products l ps xs
+pub gathered-products : (l : ℕ) (ps : List Pair) (xs : List Nibbles) → HaveRows ps → gathered (λ b. bytes_sum b l ps xs) 15 ≡ products_sum l ps xs
+gathered-products l ps xs rows = gathered-all (λ b. bytes_sum b l ps xs) ∙ all_products l ps xs rows
 
 one_more : (b l : ℕ) (p : Pair) (x : Nibbles) (ps : List Pair) (xs : List Nibbles) → bytes_sum b l (p ∷ ps) (x ∷ xs) ≡ bit_xor (bytes_with b (lane l p.powers) (byte_in l x)) (bytes_sum b l ps xs)
 unfolding bytes_sum

@@ -1,6 +1,6 @@
 -- GHASH of some blocks by powers of the hash subkey.
-use Rattle.std.proofs.Common.{◌≡◌, ℕ, zero, suc, ◌+◌, ◌-◌, ◌*◌, ◌/◌, ◌^◌, ◌<◌, List, [], ◌∷◌, length, map, get_or, take, drop, bit_xor, refl, sym, ap, ap₂, ◌∙◌, arith}
-use lib.Bits.{xor_assoc, xor_zero_l, xor_zero_r}
+use Rattle.std.proofs.Common.{◌≡◌, ℕ, zero, suc, ◌+◌, ◌-◌, ◌*◌, ◌/◌, ◌^◌, ◌<◌, List, [], ◌∷◌, length, map, get_or, set, take, drop, bit_xor, refl, sym, ap, ap₂, ◌∙◌, arith, get_or-set_same}
+use lib.Bits.{xor_assoc, xor_zero_r}
 use Rattle.std.specs.List.{range_with_len}
 use Rattle.std.specs.Simd.{first_chunks}
 use Rattle.std.proofs.lemmas.List.{drop-drop, get_or-drop, get_or-take}
@@ -8,14 +8,14 @@ use Rattle.gcm_mode.specs.Field.{product}
 use Rattle.gcm_mode.specs.Hash.{block_number, blocks_of}
 use Rattle.gcm_mode.specs.Pairs.{lane, number_of}
 use Rattle.gcm_mode.specs.Private.{ghash_from, power}
-use Rattle.gcm_mode.specs.Products.{ArePowers, products_sum}
-use Rattle.gcm_mode.specs.Tables.{block_in}
+use Rattle.gcm_mode.specs.Products.{ArePowers, HaveRows, products_sum}
+use Rattle.gcm_mode.specs.Tables.{AreRows, block_in}
 use Rattle.gcm_mode.specs.declared.vectors.Nibbles.{Nibbles}
 use Rattle.gcm_mode.specs.declared.tables.Pair.{Pair}
 use Rattle.gcm_mode.proofs.Algebra.{product-regroup}
 use Rattle.gcm_mode.proofs.FieldSums.{product-lt}
 use Rattle.gcm_mode.proofs.Lanes.{lane-same}
-use Rattle.gcm_mode.proofs.Linear.{pairs, product-xor, product-zero}
+use Rattle.gcm_mode.proofs.Linear.{pairs, product-xor}
 use Rattle.gcm_mode.proofs.Numbers.{block_number-is, number_of-same}
 
 pub power-lt : (h n : ℕ) → h < 2 ^ 128 → power h n < 2 ^ 128
@@ -28,6 +28,23 @@ unfolding power
 power-front h zero fits = refl
 power-front h (suc n) fits =
     sym (product-regroup h (power h n) h (power-lt h n fits) fits) ∙ ap (λ (p : ℕ). product p h) (power-front h n fits)
+
+power-two_on : (h n : ℕ) → h < 2 ^ 128 → product (power h 1) (power h n) ≡ power h (suc (suc n))
+unfolding power
+power-two_on h n fits =
+    product-regroup h h (power h n) fits (power-lt h n fits) ∙ ap (product h) (power-front h n fits) ∙ power-front h (suc n) fits
+
+-- a lane of a pair that was just written
+pub lane-written : (l : ℕ) (ps : List Pair) (k : ℕ) (p none : Pair) (powers : List ℕ) → p.powers ≡ powers → k < length ps
+    → lane l (get_or (set ps k p) k none).powers ≡ lane l powers
+lane-written l ps k p none powers is within = ap (λ (q : Pair). lane l q.powers) (get_or-set_same ps k p none within) ∙ ap (lane l) is
+
+-- a power from the last but one, by the second power
+pub lane-two_on : (h n l : ℕ) (ps : List Pair) (k : ℕ) (p none : Pair) (step result next : List ℕ) → h < 2 ^ 128
+    → lane l step ≡ power h 1 → lane l p.powers ≡ power h n → lane l result ≡ product (lane l step) (lane l (get_or (set ps k p) k none).powers)
+    → next ≡ result → k < length ps → lane l next ≡ power h (suc (suc n))
+lane-two_on h n l ps k p none step result next fits second last is written within =
+    ap (lane l) written ∙ is ∙ ap₂ product second (lane-written l ps k p none p.powers refl within ∙ last) ∙ power-two_on h n fits
 
 -- blocks, each times a power of h, the last one by h itself
 unfoldable pub weighed : ℕ → List ℕ → ℕ
@@ -111,41 +128,45 @@ ghash-eight h y bytes a b c d e f g i fits long ea eb ec ed ee ef eg ei =
     ∙ sym (ap (ghash_from h y) (blocks_of-eight bytes long)
     ∙ ghash-weighed h y (block_at bytes 0) (block_at bytes 1 ∷ block_at bytes 2 ∷ block_at bytes 3 ∷ block_at bytes 4 ∷ block_at bytes 5 ∷ block_at bytes 6 ∷ block_at bytes 7 ∷ []) fits)
 
--- a product with the second of two powers alone
-pub single-product : (ps : List Pair) (n : Nibbles) (x : ℕ) (none : Pair) → length ps ≡ 1 → block_in 0 n ≡ 0 → block_in 1 n ≡ x
-    → bit_xor (products_sum 0 ps (n ∷ [])) (products_sum 1 ps (n ∷ [])) ≡ product x (lane 1 (get_or ps 0 none).powers)
+-- a product with one of two powers alone
+pub one-product : (l : ℕ) (p : Pair) (n : Nibbles) (x : ℕ) → block_in l n ≡ x → products_sum l (p ∷ []) (n ∷ []) ≡ product x (lane l p.powers)
 unfolding products_sum
-single-product [] n x none one zeros is = absurd (omega arith)
-single-product (p ∷ []) n x none one zeros is =
-    ap₂ bit_xor (xor_zero_r (product (block_in 0 n) (lane 0 p.powers)) ∙ ap (λ (v : ℕ). product v (lane 0 p.powers)) zeros ∙ product-zero (lane 0 p.powers))
-    (xor_zero_r (product (block_in 1 n) (lane 1 p.powers)) ∙ ap (λ (v : ℕ). product v (lane 1 p.powers)) is)
-    ∙ xor_zero_l (product x (lane 1 p.powers))
-single-product (p ∷ q ∷ ps) n x none one zeros is = absurd (omega arith)
+one-product l p n x is =
+    xor_zero_r (product (block_in l n) (lane l p.powers)) ∙ ap (λ (v : ℕ). product v (lane l p.powers)) is
 
 -- four pairs of powers
 pub ArePowers-of : (h : ℕ) (p q r s : Pair)
+    → AreRows p.powers p.rows → AreRows q.powers q.rows → AreRows r.powers r.rows → AreRows s.powers s.rows
     → lane 0 p.powers ≡ power h 7 → lane 1 p.powers ≡ power h 6 → lane 0 q.powers ≡ power h 5 → lane 1 q.powers ≡ power h 4
     → lane 0 r.powers ≡ power h 3 → lane 1 r.powers ≡ power h 2 → lane 0 s.powers ≡ power h 1 → lane 1 s.powers ≡ power h 0
     → ArePowers h (p ∷ q ∷ r ∷ s ∷ [])
-ArePowers-of h p q r s p0 p1 q0 q1 r0 r1 s0 s1 = record { four = refl; each = each }
+ArePowers-of h p q r s rows_p rows_q rows_r rows_s p0 p1 q0 q1 r0 r1 s0 s1 = record { four = refl; rows = rows; each = each }
   where
-    each : (none : Pair) (i l : ℕ) → i < 4 → l < 2 → lane l (get_or (p ∷ q ∷ r ∷ s ∷ []) i none).powers ≡ power h (7 - (2 * i + l))
-    each none zero zero four two = p0
-    each none zero (suc zero) four two = p1
-    each none (suc zero) zero four two = q0
-    each none (suc zero) (suc zero) four two = q1
-    each none (suc (suc zero)) zero four two = r0
-    each none (suc (suc zero)) (suc zero) four two = r1
-    each none (suc (suc (suc zero))) zero four two = s0
-    each none (suc (suc (suc zero))) (suc zero) four two = s1
-    each none (suc (suc (suc (suc i)))) l four two = absurd (omega arith)
-    each none i (suc (suc l)) four two = absurd (omega arith)
+    rows : HaveRows (p ∷ q ∷ r ∷ s ∷ [])
+    rows none zero lt = rows_p
+    rows none (suc zero) lt = rows_q
+    rows none (suc (suc zero)) lt = rows_r
+    rows none (suc (suc (suc zero))) lt = rows_s
+    rows none (suc (suc (suc (suc i)))) lt = absurd (omega arith)
 
--- the last power is the hash subkey
-pub last-power : (h x result : ℕ) (ps : List Pair) → ArePowers h ps → ((none : Pair) → result ≡ product x (lane 1 (get_or (take 1 (drop 3 ps)) 0 none).powers)) → result ≡ product x h
-unfolding power
-last-power h x result [] powers is = absurd (omega (arith, powers.four))
-last-power h x result (p ∷ []) powers is = absurd (omega (arith, powers.four))
-last-power h x result (p ∷ q ∷ []) powers is = absurd (omega (arith, powers.four))
-last-power h x result (p ∷ q ∷ r ∷ []) powers is = absurd (omega (arith, powers.four))
-last-power h x result (p ∷ q ∷ r ∷ s ∷ ps) powers is = is p ∙ ap (product x) (powers.each p 3 1 (omega arith) (omega arith))
+    each : (none : Pair) (i l : ℕ) → i < 4 → l < 2 → lane l (get_or (p ∷ q ∷ r ∷ s ∷ []) i none).powers ≡ power h (7 - (2 * i + l))
+    each none zero zero four lt = p0
+    each none zero (suc zero) four lt = p1
+    each none (suc zero) zero four lt = q0
+    each none (suc zero) (suc zero) four lt = q1
+    each none (suc (suc zero)) zero four lt = r0
+    each none (suc (suc zero)) (suc zero) four lt = r1
+    each none (suc (suc (suc zero))) zero four lt = s0
+    each none (suc (suc (suc zero))) (suc zero) four lt = s1
+    each none (suc (suc (suc (suc i)))) l four lt = absurd (omega arith)
+    each none i (suc (suc l)) four lt = absurd (omega arith)
+
+-- four pairs that were written in the place of others, the last one twice
+pub ArePowers-written : (h : ℕ) (ps : List Pair) (first p q r s : Pair) → length ps ≡ 4 → ArePowers h (p ∷ q ∷ r ∷ s ∷ [])
+    → ArePowers h (set (set (set (set (set ps 3 first) 3 s) 2 r) 1 q) 0 p)
+ArePowers-written h [] first p q r s four powers = absurd (omega arith)
+ArePowers-written h (a ∷ []) first p q r s four powers = absurd (omega arith)
+ArePowers-written h (a ∷ b ∷ []) first p q r s four powers = absurd (omega arith)
+ArePowers-written h (a ∷ b ∷ c ∷ []) first p q r s four powers = absurd (omega arith)
+ArePowers-written h (a ∷ b ∷ c ∷ d ∷ []) first p q r s four powers = powers
+ArePowers-written h (a ∷ b ∷ c ∷ d ∷ e ∷ ps) first p q r s four powers = absurd (omega arith)

@@ -53,7 +53,7 @@ impl Gcm {
     pub fn new(key: Key256) -> Gcm
         ensures { result ≡ key }
     {
-        let powers = powers_of(&key);
+        let powers = Powers::new(&subkey_of(&key));
         Gcm {
             cipher: key,
             powers,
@@ -65,7 +65,7 @@ impl Gcm {
         ensures { self.new ≡ key.now }
     {
         self.cipher.renew(key);
-        self.powers = powers_of(&self.cipher);
+        self.powers.renew(&subkey_of(&self.cipher));
     }
 
     /// Encrypts `text` in place, and gives its tag (section 7.1). `iv` has 1 to 2^32 bytes, and
@@ -166,11 +166,11 @@ impl Gcm {
     }
 }
 
-// The tables of the hash subkey, which is the image of a block of zeros.
-fn powers_of(key: &Key256) -> Powers
-    ensures { result ≡ hash_subkey (aes256 key.now) }
+// The hash subkey, which is the image of a block of zeros.
+fn subkey_of(key: &Key256) -> Block
+    ensures { block_number result ≡ hash_subkey (aes256 key.now) }
 {
     let mut blocks = [[0; 16]];
     key.encrypt_blocks(&mut blocks);
-    Powers::new(&blocks[0])
+    blocks[0]
 }

@@ -57,6 +57,26 @@ pub fn of_two(first: u8x16, second: u8x16) -> u8x32
     first.shuffle(second, BOTH)
 }
 
+// The first of a vector's two blocks.
+#[inline(always)]
+fn first_of(v: u8x32) -> u8x16
+    requires { IsPair v }
+    ensures block { IsBlock result }
+    ensures first { block_number result ≡ lane 0 v }
+{
+    v.swizzle(FIRST)
+}
+
+/// The second of a vector's two blocks.
+#[inline(always)]
+pub fn second_of(v: u8x32) -> u8x16
+    requires { IsPair v }
+    ensures block { IsBlock result }
+    ensures second { block_number result ≡ lane 1 v }
+{
+    v.swizzle(SECOND)
+}
+
 /// The sum of a vector's two blocks.
 #[inline(always)]
 pub fn sum_of_two(v: u8x32) -> u8x16
@@ -64,8 +84,8 @@ pub fn sum_of_two(v: u8x32) -> u8x16
     ensures block { IsBlock result }
     ensures sum { block_number result ≡ bit_xor (lane 0 v) (lane 1 v) }
 {
-    let first: u8x16 = v.swizzle(FIRST);
-    let second: u8x16 = v.swizzle(SECOND);
+    let first = first_of(v);
+    let second = second_of(v);
     first ^ second
 }
 

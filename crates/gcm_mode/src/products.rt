@@ -1,20 +1,23 @@
 // The products of blocks with powers of a hash subkey, by shuffles of the products with nibbles.
 
-ghost use Rattle.std.specs.Prelude.{◌≡◌, ℕ, ◌+◌, ◌*◌, ◌^◌, ◌<◌, bit_and, bit_xor, get_or, length, slice_index};
+ghost use Rattle.std.specs.Prelude.{◌≡◌, ℕ, ◌+◌, ◌*◌, ◌^◌, ◌<◌, bit_and, bit_xor, length, slice_index};
 ghost use Rattle.aes_lanes.specs.Bytes.{IsBlock};
 ghost use Rattle.gcm_mode.specs.Field.{product, times_u as u_times};
 ghost use Rattle.gcm_mode.specs.Hash.{block_number, blocks_of};
 ghost use Rattle.gcm_mode.specs.Pairs.{IsPair, byte_of, bytes_with, lane, nibble_sum};
 ghost use Rattle.gcm_mode.specs.Private.{ghash_from};
-ghost use Rattle.gcm_mode.specs.Products.{bytes_sum, products_sum};
-ghost use Rattle.gcm_mode.specs.Tables.{byte_in};
+ghost use Rattle.gcm_mode.specs.Products.{ArePowers, HaveRows, bytes_sum, products_sum};
+ghost use Rattle.gcm_mode.specs.Tables.{AreRows, byte_in};
 
-use super::pairs::{loaded, look, nibbles_of, of_two, one_on, sum_of_two, times_u, times_u128};
+use super::pairs::{
+    loaded, look, nibbles_of, of_two, one_on, second_of, sum_of_two, times_u, times_u128,
+};
 use super::tables::Pair;
 use super::vectors::{Bits, Nibbles, Row};
 use aes_lanes::Block;
 use std::marker::Model;
 use std::simd::prelude::*;
+use std::slice::from_ref;
 
 fn bits_of(eight: u8x32) -> Bits
     requires { IsPair eight }
@@ -84,33 +87,36 @@ fn row_of(bits: &Bits, b: u8) -> u8x32
     eight ^ four ^ two ^ one
 }
 
-fn pair_of(first: u8x16, second: u8x16) -> Pair
-    requires first { IsBlock first }
-    requires second { IsBlock second }
-    ensures first_lane { lane 0 result.powers ≡ block_number first }
-    ensures second_lane { lane 1 result.powers ≡ block_number second }
+// Writes the bytes of the products of two powers with each nibble, row by row.
+fn write_rows(powers: u8x32, rows: &mut [Row; 16])
+    requires { IsPair powers }
+    ensures { AreRows powers rows.new }
 {
-    let powers = of_two(first, second);
     let first_bits = bits_of(powers);
     let fifth = times_u(first_bits.one);
     let last_bits = bits_of(fifth);
-    let none = u8x32::splat(0);
-    let mut rows = [Row {
-        high: none,
-        low: none,
-    }; 16];
     for b in 0..16usize {
         let high = row_of(&first_bits, b as u8);
         let low = row_of(&last_bits, b as u8);
         rows[b] = Row { high, low };
     }
-    Pair { powers, rows }
+}
+
+// Makes the tables of two powers in the place of the last ones.
+fn write_pair(powers: u8x32, pair: &mut Pair)
+    requires { IsPair powers }
+    ensures powers { pair.new.powers ≡ powers }
+    ensures rows { AreRows pair.new.powers pair.new.rows }
+{
+    pair.powers = powers;
+    write_rows(powers, &mut pair.rows);
 }
 
 // Byte b of the products of each byte of two blocks, in its first place, with two powers.
 #[inline(always)]
 fn bytes_of(pair: &Pair, blocks: &Nibbles, b: usize) -> u8x32
-    requires { b < 16 }
+    requires rows { AreRows pair.now.powers pair.now.rows }
+    requires b { b < 16 }
     ensures pair { IsPair result }
     ensures lanes { (l : ℕ) → l < 2 → lane l result ≡ bytes_with b (lane l pair.now.powers) (byte_in l blocks.now) }
 {
@@ -122,6 +128,7 @@ fn bytes_of(pair: &Pair, blocks: &Nibbles, b: usize) -> u8x32
 
 #[inline(always)]
 fn sum_of_bytes(pairs: &[Pair], blocks: &[Nibbles], b: usize) -> u8x32
+    requires rows { HaveRows pairs.now }
     requires b { b < 16 }
     requires as_many { length blocks.now ≡ length pairs.now }
     ensures pair { IsPair result }
@@ -138,7 +145,8 @@ fn sum_of_bytes(pairs: &[Pair], blocks: &[Nibbles], b: usize) -> u8x32
 // The sums of the products of blocks and powers, in each lane.
 #[inline(always)]
 fn sum_of_products(pairs: &[Pair], blocks: &[Nibbles]) -> u8x32
-    requires { length blocks.now ≡ length pairs.now }
+    requires rows { HaveRows pairs.now }
+    requires as_many { length blocks.now ≡ length pairs.now }
     ensures pair { IsPair result }
     ensures lanes { (l : ℕ) → l < 2 → lane l result ≡ products_sum l pairs.now blocks.now }
 {
@@ -156,17 +164,57 @@ fn sum_of_products(pairs: &[Pair], blocks: &[Nibbles]) -> u8x32
     low ^ folded
 }
 
+// The products of two blocks, each with one of two powers.
+#[inline(always)]
+fn products(pair: &Pair, blocks: u8x32) -> u8x32
+    requires rows { AreRows pair.now.powers pair.now.rows }
+    requires blocks { IsPair blocks }
+    ensures pair { IsPair result }
+    ensures lanes { (l : ℕ) → l < 2 → lane l result ≡ product (lane l blocks) (lane l pair.now.powers) }
+{
+    let nibbles = nibbles_of(blocks);
+    sum_of_products(from_ref(pair), from_ref(&nibbles))
+}
+
 // The product of a block with the second of two powers.
-fn times(pairs: &[Pair], x: u8x16) -> u8x16
-    requires one { length pairs.now ≡ 1 }
+#[inline(always)]
+fn times(pair: &Pair, x: u8x16) -> u8x16
+    requires rows { AreRows pair.now.powers pair.now.rows }
     requires x { IsBlock x }
     ensures block { IsBlock result }
-    ensures product { (none : Pair) → block_number result ≡ product (block_number x) (lane 1 (get_or pairs.now 0 none).powers) }
+    ensures product { block_number result ≡ product (block_number x) (lane 1 pair.now.powers) }
 {
-    let pair = of_two(u8x16::splat(0), x);
-    let blocks = [nibbles_of(pair)];
-    let sum = sum_of_products(pairs, &blocks);
-    sum_of_two(sum)
+    let both = products(pair, of_two(x, x));
+    second_of(both)
+}
+
+fn no_pair() -> Pair {
+    let none = u8x32::splat(0);
+    Pair {
+        powers: none,
+        rows: [Row {
+            high: none,
+            low: none,
+        }; 16],
+    }
+}
+
+// Makes the tables of the first eight powers of a hash subkey in the place of the last ones. Those of the
+// first power alone give the second, and it gives two more from each two.
+fn write_powers(subkey: &Block, pairs: &mut [Pair; 4])
+    ensures { ArePowers (block_number subkey.now) pairs.new }
+{
+    let first = u8x16::from_array(*subkey);
+    write_pair(of_two(first, first), &mut pairs[3]);
+    let second = times(&pairs[3], first);
+    write_pair(of_two(second, first), &mut pairs[3]);
+    let step = of_two(second, second);
+    let fourth = products(&pairs[3], step);
+    write_pair(fourth, &mut pairs[2]);
+    let sixth = products(&pairs[2], step);
+    write_pair(sixth, &mut pairs[1]);
+    let eighth = products(&pairs[1], step);
+    write_pair(eighth, &mut pairs[0]);
 }
 
 /// The tables of the first eight powers of a hash subkey, the highest first. A clause sees the hash subkey.
@@ -196,24 +244,20 @@ impl Powers {
     pub fn new(subkey: &Block) -> Powers
         ensures { result ≡ block_number subkey.now }
     {
-        let first = u8x16::from_array(*subkey);
-        let alone = [pair_of(u8x16::splat(0), first)];
-        let second = times(&alone, first);
-        let third = times(&alone, second);
-        let fourth = times(&alone, third);
-        let fifth = times(&alone, fourth);
-        let sixth = times(&alone, fifth);
-        let seventh = times(&alone, sixth);
-        let eighth = times(&alone, seventh);
+        let mut pairs = [no_pair(); 4];
+        write_powers(subkey, &mut pairs);
         Powers {
             subkey: *subkey,
-            pairs: [
-                pair_of(eighth, seventh),
-                pair_of(sixth, fifth),
-                pair_of(fourth, third),
-                pair_of(second, first),
-            ],
+            pairs,
         }
+    }
+
+    /// Becomes the tables of another hash subkey, made in the place of the last ones.
+    pub fn renew(&mut self, subkey: &Block)
+        ensures { self.new ≡ block_number subkey.now }
+    {
+        self.subkey = *subkey;
+        write_powers(subkey, &mut self.pairs);
     }
 
     /// x • the subkey
@@ -222,7 +266,7 @@ impl Powers {
         ensures block { IsBlock result }
         ensures product { block_number result ≡ product (block_number x) self.now }
     {
-        times(&self.pairs[3..], x)
+        times(&self.pairs[3], x)
     }
 
     /// GHASH goes on from `hash` over eight blocks.

@@ -12,6 +12,6 @@ returns c =
     let low = c.look-low in
     record {
       pair = IsPair-sum high.result low.result high.ensures.pair low.ensures.pair;
-      lanes = λ l two. lane-looked c.args.b l pair.powers pair.rows row c.args.blocks.now high.result low.result c.requires two pair.products (ap (λ (r : Row). get_or pair.rows c.args.b r) c.index-pair-b.is)
+      lanes = λ l two. lane-looked c.args.b l pair.powers pair.rows row c.args.blocks.now high.result low.result c.requires.b two c.requires.rows (ap (λ (r : Row). get_or pair.rows c.args.b r) c.index-pair-b.is)
           high.ensures.pair low.ensures.pair (λ p lt. high.ensures.each l p two lt) (λ p lt. low.ensures.each l p two lt);
     }

@@ -71,5 +71,5 @@ returns c =
           ∙ ap (bit_xor (lane l low)) (folded.ensures.lanes l two ∙ sym (times_power-folded (lane l high) (lane-lt l high pair_high) zeros))
           ∙ c.loop-done.invariant.2 l two
           ∙ ap (gathered (λ b. bytes_sum b l c.args.pairs.now c.args.blocks.now)) last
-          ∙ gathered-products l c.args.pairs.now c.args.blocks.now;
+          ∙ gathered-products l c.args.pairs.now c.args.blocks.now c.requires.rows;
     }

@@ -1,17 +1,14 @@
-use Rattle.std.proofs.Common.{ℕ, ◌*◌, ◌^◌, ◌<◌, length, length-set, sym, ap, ◌∙◌, arith, lit<}
+use Rattle.std.proofs.Common.{ℕ, ◌*◌, ◌^◌, ◌<◌, length, length-set, sym, ap, ◌∙◌, arith}
 use Rattle.gcm_mode.specs.Field.{product, times_u}
 use Rattle.gcm_mode.specs.Pairs.{byte_of, lane, nibble_sum}
 use Rattle.gcm_mode.specs.declared.vectors.Row.{Row}
-use Rattle.gcm_mode.proofs.Lanes.{IsPair-splat, lane-lt}
+use Rattle.gcm_mode.proofs.Lanes.{lane-lt}
 use Rattle.gcm_mode.proofs.RowBytes.{first-nibble, more_rows, second-nibble}
-use Rattle.gcm_mode.proofs.products.pair_of.Goals as goal
-
-pub invariant_of-rows : goal.invariant_of-rows
-invariant_of-rows c = record { high_pair = IsPair-splat 0 (lit< tt); low_pair = IsPair-splat 0 (lit< tt) }
+use Rattle.gcm_mode.proofs.products.write_rows.Goals as goal
 
 pub loop-b-preserved : goal.loop-b-preserved
 loop-b-preserved c =
-    let powers = c.of_two-powers.result in
+    let powers = c.args.powers in
     let rows = c.loop-b.rows in
     let b = c.loop-b.b in
     let bits = c.bits_of-first_bits.result in
@@ -20,7 +17,7 @@ loop-b-preserved c =
     let last_bits = c.bits_of-last_bits.result in
     let last = c.bits_of-last_bits.ensures in
     let within : b < length rows = omega arith in
-    let fits : (m : ℕ) → lane m powers < 2 ^ 128 = λ m. lane-lt m powers c.of_two-powers.ensures.pair in (
+    let fits : (m : ℕ) → lane m powers < 2 ^ 128 = λ m. lane-lt m powers c.requires in (
       length-set rows b _ ∙ c.loop-b.invariant.0,
       more_rows (λ k m n. byte_of k (product (n * 2 ^ 124) (lane m powers))) (λ (r : Row). r.high) rows b _ within
           (λ m n two lt.

@@ -1,6 +1,6 @@
 -- GHASH of lists that are joined.
-use Rattle.std.proofs.Common.{◌≡◌, ℕ, zero, suc, ◌+◌, ◌*◌, ◌≤◌, List, [], ◌∷◌, ◌++◌, length, take, drop, refl, sym, ap, ap₂, ◌∙◌, arith, bit_xor}
-use Rattle.std.proofs.lemmas.List.{drop-drop, drop-take, length-drop, length-take-le, take-take}
+use Rattle.std.proofs.Common.{◌≡◌, ℕ, zero, suc, ◌+◌, ◌*◌, ◌<◌, ◌≤◌, min, List, [], ◌∷◌, ◌++◌, length, take, drop, refl, sym, ap, ap₂, ◌∙◌, arith, bit_xor}
+use Rattle.std.proofs.lemmas.List.{drop-drop, drop-take, length-drop, length-take-le, nil_from_length, take-take, take_all}
 use Rattle.gcm_mode.specs.Field.{product}
 use Rattle.gcm_mode.specs.Hash.{block_number, blocks_of, ghash}
 use Rattle.gcm_mode.specs.Private.{ghash_from}
@@ -42,3 +42,32 @@ pub ghash_from-part : (h y hash : ℕ) (rest front back : List ℕ) (n : ℕ) �
 ghash_from-part h y hash rest front back n long front_is back_is hash_is =
     ap₂ (λ (x : ℕ) (xs : List ℕ). ghash_from h x (blocks_of xs)) (hash_is ∙ ap (λ (xs : List ℕ). ghash_from h y (blocks_of xs)) front_is) back_is
     ∙ sym (ap (ghash_from h y) (blocks_of-front n rest long) ∙ ghash_from-append h y (blocks_of (take (16 * n) rest)) (blocks_of (drop (16 * n) rest)))
+
+pub ghash_from-none : (h y : ℕ) (bytes : List ℕ) → length bytes ≡ 0 → ghash_from h y (blocks_of bytes) ≡ y
+unfolding ghash_from blocks_of
+ghash_from-none h y bytes none = ap (λ (xs : List ℕ). ghash_from h y (blocks_of xs)) (nil_from_length bytes none)
+
+-- the first block of a byte string
+ghash_from-more : (h y x : ℕ) (bytes first : List ℕ) (n : ℕ) → n ≡ min (length bytes) 16 → 0 < length bytes → first ≡ take n bytes → x ≡ block_number first
+    → ghash_from h y (blocks_of bytes) ≡ ghash_from h (product (bit_xor y x) h) (blocks_of (drop n bytes))
+unfolding ghash_from
+ghash_from-more h y x bytes first n size some first_is x_is =
+    ap (ghash_from h y) (blocks_of-more bytes n size some)
+    ∙ ap (λ (k : ℕ). ghash_from h (product (bit_xor y k) h) (blocks_of (drop n bytes))) (sym (x_is ∙ ap block_number first_is))
+
+pub ghash_from-one : (h y x : ℕ) (bytes : List ℕ) → 0 < length bytes → length bytes ≤ 16 → x ≡ block_number bytes → ghash_from h y (blocks_of bytes) ≡ product (bit_xor y x) h
+ghash_from-one h y x bytes some few x_is =
+    let size = length-drop (length bytes) bytes in
+    ghash_from-more h y x bytes bytes (length bytes) (omega arith) some (sym (take_all (length bytes) bytes (omega arith))) x_is
+    ∙ ghash_from-none h (product (bit_xor y x) h) (drop (length bytes) bytes) (omega (arith, size))
+
+-- the first two blocks, of which the second may be the last and short
+pub ghash_from-two : (h y a b next : ℕ) (rest first behind second others : List ℕ) (n : ℕ) → 16 < length rest → first ≡ take 16 rest → behind ≡ drop 16 rest
+    → n ≡ min (length behind) 16 → second ≡ take n behind → others ≡ drop n behind → a ≡ block_number first → b ≡ block_number second
+    → next ≡ product (bit_xor (product (bit_xor y a) h) b) h → ghash_from h next (blocks_of others) ≡ ghash_from h y (blocks_of rest)
+ghash_from-two h y a b next rest first behind second others n some first_is behind_is size second_is others_is a_is b_is next_is =
+    let more : 0 < length behind = omega (arith, ap length behind_is, length-drop 16 rest) in
+    ap₂ (λ (x : ℕ) (xs : List ℕ). ghash_from h x (blocks_of xs)) next_is others_is
+    ∙ sym (ghash_from-more h (product (bit_xor y a) h) b behind second n size more second_is b_is)
+    ∙ ap (λ (xs : List ℕ). ghash_from h (product (bit_xor y a) h) (blocks_of xs)) behind_is
+    ∙ sym (ghash_from-more h y a rest first 16 (omega arith) (omega arith) first_is a_is)

@@ -63,6 +63,12 @@ ghash-weighed h y x (z ∷ xs) fits =
     ∙ ap (λ (p : ℕ). bit_xor p (weighed h xs)) (product-xor (product first h) z last ∙ ap (λ (p : ℕ). bit_xor p (product z last)) whole)
     ∙ xor_assoc (product first (power h (suc (length xs)))) (product z last) (weighed h xs)
 
+-- two steps at once
+pub two-weighed : (h x y : ℕ) → h < 2 ^ 128 → bit_xor (product x (power h 1)) (product y (power h 0)) ≡ product (bit_xor (product x h) y) h
+unfolding power
+two-weighed h x y fits =
+    sym (product-xor (product x h) y h ∙ ap (λ (p : ℕ). bit_xor p (product y h)) (product-regroup x h h fits fits))
+
 -- two sums, and the rest of both lanes
 two : (a x a' b y b' z : ℕ) → a ≡ a' → b ≡ b' → bit_xor x y ≡ z → bit_xor (bit_xor a x) (bit_xor b y) ≡ bit_xor a' (bit_xor b' z)
 two a x a' b y b' z ea eb rest =

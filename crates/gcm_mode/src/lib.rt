@@ -8,7 +8,8 @@ ghost use Rattle.aes_lanes.specs.Bytes.{IsBlock};
 ghost use Rattle.aes_lanes.specs.Cipher.{aes256};
 ghost use Rattle.aes_lanes.specs.Counter.{ctr32, increment32};
 ghost use Rattle.gcm_mode.specs.Field.{product as product_of};
-ghost use Rattle.gcm_mode.specs.Hash.{block_bytes, block_number};
+ghost use Rattle.gcm_mode.specs.Hash.{block_bytes, block_number, blocks_of};
+ghost use Rattle.gcm_mode.specs.Private.{ghash_from};
 ghost use Rattle.gcm_mode.specs.Gcm.{hash_subkey, hashed, pre_counter, tag_of, sealed, Opens, OpensToNothing};
 
 use aes_lanes::{Block, Cipher, Key256, ctr32_xor, same_bytes};
@@ -26,7 +27,7 @@ mod vectors;
 
 use counter::{next_counter, short_counter};
 pub use field::product;
-use hash::{bit_length, hash_on};
+use hash::{bit_length, hash_on, hash_to_end};
 use products::Powers;
 
 /// The tag isn't that of the text, its associated data and its initialization vector.
@@ -118,7 +119,7 @@ impl Gcm {
         if iv.len() == 12 {
             return short_counter(iv);
         }
-        self.last_step(hash_on(&self.powers, u8x16::splat(0), iv), bit_length(iv))
+        self.last_steps(u8x16::splat(0), iv, bit_length(iv))
     }
 
     // Encrypts or decrypts a text whose pre-counter block is `counter`.
@@ -147,22 +148,20 @@ impl Gcm {
         requires text_within { length text.now ≤ 2 ^ 32 }
         ensures { result ≡ block_bytes (hashed (aes256 self.now) ad.now text.now) }
     {
-        let hash = hash_on(
-            &self.powers,
-            hash_on(&self.powers, u8x16::splat(0), ad),
-            text,
-        );
+        let hash = hash_on(&self.powers, u8x16::splat(0), ad);
         let lengths = (bit_length(ad) << 64) + bit_length(text);
-        self.last_step(hash, lengths)
+        self.last_steps(hash, text, lengths)
     }
 
-    // GHASH goes on from `hash` over a block of lengths, and ends.
-    fn last_step(&self, hash: u8x16, lengths: u128) -> Block
+    // GHASH goes on from `hash` over `bytes` and a block of lengths, and ends.
+    fn last_steps(&self, hash: u8x16, bytes: &[u8], lengths: u128) -> Block
         requires { IsBlock hash }
-        ensures { result ≡ block_bytes (product_of (bit_xor (block_number hash) lengths) (hash_subkey (aes256 self.now))) }
+        ensures { result ≡ block_bytes (product_of
+            (bit_xor (ghash_from (hash_subkey (aes256 self.now)) (block_number hash) (blocks_of bytes.now)) lengths)
+            (hash_subkey (aes256 self.now))) }
     {
         let block = u8x16::from_array(lengths.to_be_bytes());
-        self.powers.times(hash ^ block).to_array()
+        hash_to_end(&self.powers, hash, bytes, block).to_array()
     }
 }
 

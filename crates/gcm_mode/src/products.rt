@@ -269,6 +269,19 @@ impl Powers {
         times(&self.pairs[3], x)
     }
 
+    /// GHASH goes on from `hash` over two blocks.
+    pub fn two_steps(&self, hash: u8x16, first: u8x16, second: u8x16) -> u8x16
+        requires hash { IsBlock hash }
+        requires first { IsBlock first }
+        requires second { IsBlock second }
+        ensures block { IsBlock result }
+        ensures steps { block_number result
+            ≡ product (bit_xor (product (bit_xor (block_number hash) (block_number first)) self.now) (block_number second)) self.now }
+    {
+        let sum = products(&self.pairs[3], of_two(hash ^ first, second));
+        sum_of_two(sum)
+    }
+
     /// GHASH goes on from `hash` over eight blocks.
     pub fn eight_steps(&self, hash: u8x16, bytes: &[u8]) -> u8x16
         requires hash { IsBlock hash }

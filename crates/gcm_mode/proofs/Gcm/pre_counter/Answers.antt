@@ -10,11 +10,10 @@ use Rattle.gcm_mode.proofs.Gcm.pre_counter.Goals as goal
 pub returns-then-iv-eq12 : goal.returns-then-iv-eq12
 returns-then-iv-eq12 c = c.short_counter.ensures ∙ sym (pre_counter-short _ _ c.if-iv-eq12.true)
 
-pub hash_on-requires : goal.hash_on-requires
-hash_on-requires c = IsBlock-splat 0 (lit< tt)
+pub last_steps-requires : goal.last_steps-requires
+last_steps-requires c = IsBlock-splat 0 (lit< tt)
 
 pub returns : goal.returns
 returns c =
-    let subkey = rw c.self.view_is at c.self.invariant in
-    let hash = (rw subkey at c.hash_on.ensures.steps) ∙ ap (λ y. ghash_from (hash_subkey (aes256 c.args.self.now)) y (blocks_of c.args.iv.now)) block_number-none in
-    c.last_step.ensures ∙ rw c.bit_length.ensures (pre_counter-hashed _ _ _ _ c.if-iv-eq12.false refl hash)
+    let hash = ap (λ y. ghash_from (hash_subkey (aes256 c.args.self.now)) y (blocks_of c.args.iv.now)) block_number-none in
+    c.last_steps.ensures ∙ rw c.bit_length.ensures (pre_counter-hashed _ _ _ _ c.if-iv-eq12.false refl hash)

@@ -12,4 +12,4 @@ loop-rest-preserved c = (
 )
 
 pub returns : goal.returns
-returns c = record { block = c.hash_singly.ensures.block; steps = c.hash_singly.ensures.steps ∙ c.loop-rest.invariant.1 }
+returns c = record { block = c.hash_by_twos.ensures.block; steps = c.hash_by_twos.ensures.steps ∙ c.loop-rest.invariant.1 }

@@ -2,7 +2,7 @@ use Rattle.std.proofs.Common.{◌≡◌, length}
 use Rattle.aes_lanes.specs.Bytes.{IsBlock}
 use Rattle.gcm_mode.specs.Hash.{block_number, blocks_of}
 use Rattle.gcm_mode.specs.Private.{ghash_from}
-use Rattle.gcm_mode.proofs.hash.hash_singly.Given as goal
+use Rattle.gcm_mode.proofs.hash.hash_by_twos.Given as goal
 
 abbrev pub invariant-loop-rest : goal.invariant-loop-rest
 invariant-loop-rest l =

@@ -47,18 +47,28 @@ pub fn item_at<F: Folder>(
     ensures item { IfOk result (λ item. IfSeen (F.told folder.old) (λ v. item_of item ≡ (format_of vault.now.vault).item long (under at.now (under vault.now.root v)))) }
     ensures counts { CountsAbove (F.faults folder.old) (F.faults folder.new) result }
 {
-    match vault.kind() {
-        VaultKind::Gocryptfs => go_item_at(folder, vault.root(), at),
-        VaultKind::Cryptomator => cm_item_at(folder, vault.root(), at, long),
-    }
+    let kind = kind_under(folder, vault.root(), at)?;
+    item_of_kind(folder, vault, at, kind, long)
 }
 
-fn go_item_at<F: Folder>(folder: &mut F, root: &FPath, at: &FPath) -> Result<EntryItem, FolderFault>
+/// What the entry at a path is, by the kind of what stands there and by whether its name is long. The folder is asked only
+/// where that is a directory of a Cryptomator vault, for the files in it.
+pub fn item_of_kind<F: Folder>(
+    folder: &mut F,
+    vault: &Vault,
+    at: &FPath,
+    kind: Kind,
+    long: bool,
+) -> Result<EntryItem, FolderFault>
     ensures told { F.told folder.new ≡ F.told folder.old }
-    ensures item { IfOk result (λ item. IfSeen (F.told folder.old) (λ v. item_of item ≡ go_item (under root.now v at.now))) }
+    ensures item { IfOk result (λ item. IfSeen (F.told folder.old) (λ v. kind ≡ kind_found (under vault.now.root v at.now)
+        → item_of item ≡ (format_of vault.now.vault).item long (under at.now (under vault.now.root v)))) }
     ensures counts { CountsAbove (F.faults folder.old) (F.faults folder.new) result }
 {
-    Ok(go_item(kind_under(folder, root, at)?))
+    match vault.kind() {
+        VaultKind::Gocryptfs => Ok(go_item(kind)),
+        VaultKind::Cryptomator => cm_item_of_kind(folder, vault.root(), at, kind, long),
+    }
 }
 
 fn go_item(kind: Kind) -> EntryItem
@@ -72,17 +82,19 @@ fn go_item(kind: Kind) -> EntryItem
     }
 }
 
-fn cm_item_at<F: Folder>(
+fn cm_item_of_kind<F: Folder>(
     folder: &mut F,
     root: &FPath,
     at: &FPath,
+    kind: Kind,
     long: bool,
 ) -> Result<EntryItem, FolderFault>
     ensures told { F.told folder.new ≡ F.told folder.old }
-    ensures item { IfOk result (λ item. IfSeen (F.told folder.old) (λ v. item_of item ≡ cm_item_of long (under at.now (under root.now v)) (under root.now v at.now))) }
+    ensures item { IfOk result (λ item. IfSeen (F.told folder.old) (λ v. kind ≡ kind_found (under root.now v at.now)
+        → item_of item ≡ cm_item_of long (under at.now (under root.now v)) (under root.now v at.now))) }
     ensures counts { CountsAbove (F.faults folder.old) (F.faults folder.new) result }
 {
-    match kind_under(folder, root, at)? {
+    match kind {
         Kind::Missing => Ok(EntryItem::Nothing),
         Kind::File => Ok(entry_item(long, EntryItem::EntryFile)),
         Kind::Other => Ok(entry_item(long, EntryItem::NoItem(Finding::SymlinkFound))),

@@ -2,7 +2,7 @@
 ghost use Rattle.std.specs.Prelude.{◌≡◌, IfOk};
 ghost use Rattle.folder_spec.specs.Listing.{IsListing};
 ghost use Rattle.folder_spec.specs.Seen.{IfSeen, under};
-ghost use Rattle.folder_spec.specs.View.{Folder};
+ghost use Rattle.folder_spec.specs.View.{Folder, kind_found};
 ghost use Rattle.folder_model.specs.Answers.{CountsAbove};
 
 use folder_model::{Entry, FPath, Folder, Kind};
@@ -21,7 +21,24 @@ pub(crate) fn entries_at<F: Folder>(
     ensures listing { IfOk result (λ entries. IfSeen (F.told folder.old) (λ v. IsListing (under root.now v) at.now entries.items)) }
     ensures counts { CountsAbove (F.faults folder.old) (F.faults folder.new) result }
 {
-    match kind_under(folder, root, at)? {
+    let kind = kind_under(folder, root, at)?;
+    entries_of_kind(alloc, folder, root, at, kind)
+}
+
+// What stands below a path behind a root, by the kind of what stands there.
+pub(crate) fn entries_of_kind<F: Folder>(
+    alloc: Global,
+    folder: &mut F,
+    root: &FPath,
+    at: &FPath,
+    kind: Kind,
+) -> Result<Vec<Entry>, FolderFault>
+    requires { IfSeen (F.told folder.old) (λ v. kind ≡ kind_found (under root.now v at.now)) }
+    ensures told { F.told folder.new ≡ F.told folder.old }
+    ensures listing { IfOk result (λ entries. IfSeen (F.told folder.old) (λ v. IsListing (under root.now v) at.now entries.items)) }
+    ensures counts { CountsAbove (F.faults folder.old) (F.faults folder.new) result }
+{
+    match kind {
         Kind::Dir => listed(folder, root, at),
         _ => Ok(Vec::new(alloc)),
     }

@@ -3,7 +3,7 @@ ghost use Rattle.std.specs.Prelude.{◌≡◌, ◌++◌, IfOk, OnOk};
 ghost use Rattle.folder_spec.specs.Listing.{IsListing};
 ghost use Rattle.folder_spec.specs.Path.{child};
 ghost use Rattle.folder_spec.specs.Seen.{IfSeen, under};
-ghost use Rattle.folder_spec.specs.View.{View};
+ghost use Rattle.folder_spec.specs.View.{View, kind_found};
 ghost use Rattle.folder_model.specs.Answers.{CountsAbove};
 ghost use Rattle.vault_read.specs.Items.{item_of};
 ghost use Rattle.vault_spec.specs.Vault.{format_of};
@@ -12,23 +12,26 @@ ghost use Rattle.vault_walk.specs.Extras.{extra_at, extras};
 ghost use Rattle.vault_walk.specs.Names.{role_of};
 ghost use Rattle.vault_walk.specs.Report.{AreInside};
 
-use crate::entries::entries_at;
+use crate::entries::entries_of_kind;
 use crate::found::Found;
 use crate::names::{Role, inner_role};
-use folder_model::{Entry, FPath, Folder};
+use folder_model::{Entry, FPath, Folder, Kind};
 use folder_spec::FolderFault;
 use std::alloc::{AllocError, Global};
 use vault_read::{EntryItem, Vault, VaultKind};
 
-// What an item's own folder holds beside what belongs there, by whether its name is long.
+// What an item's own folder holds beside what belongs there, by the kind of what stands at the entry and by whether its name
+// is long.
 pub(crate) fn found_inside<F: Folder>(
     alloc: Global,
     folder: &mut F,
     vault: &Vault,
     at: &FPath,
+    kind: Kind,
     long: bool,
     item: EntryItem,
 ) -> Result<Vec<Found>, FolderFault>
+    requires { IfSeen (F.told folder.old) (λ v. kind ≡ kind_found (under vault.now.root v at.now)) }
     ensures told { F.told folder.new ≡ F.told folder.old }
     ensures found { IfOk result (λ found. IfSeen (F.told folder.old) (λ v. AreInside (format_of vault.now.vault) (under vault.now.root v) at.now long (item_of item) found.items)) }
     ensures counts { CountsAbove (F.faults folder.old) (F.faults folder.new) result }
@@ -36,7 +39,7 @@ pub(crate) fn found_inside<F: Folder>(
     match vault.kind() {
         VaultKind::Gocryptfs => Ok(Vec::new(alloc)),
         VaultKind::Cryptomator => {
-            let entries = entries_at(alloc, folder, vault.root(), at)?;
+            let entries = entries_of_kind(alloc, folder, vault.root(), at, kind)?;
             Ok(extras(alloc, at, long, item, entries.as_slice())?)
         }
     }

@@ -2,7 +2,7 @@
 ghost use Rattle.std.specs.Prelude.{◌≡◌, ◌++◌, ◌∷◌, [], ◌&&◌, ◌||◌, ℕ, List, Contains, Some, IfOk, OnOk};
 ghost use Rattle.folder_spec.specs.Listing.{Item};
 ghost use Rattle.folder_spec.specs.Path.{child};
-ghost use Rattle.folder_spec.specs.Seen.{IfSeen, IsSeen, under};
+ghost use Rattle.folder_spec.specs.Seen.{IfSeen, under};
 ghost use Rattle.folder_spec.specs.View as view;
 ghost use Rattle.folder_spec.specs.View.{View, kind_found};
 ghost use Rattle.folder_model.specs.Answers.{CountsAbove};
@@ -25,7 +25,8 @@ use plain_tree::Name;
 use std::alloc::{AllocError, Global};
 use vault_read::items::CONTENT_FILE;
 use vault_read::{
-    Directory, EntryItem, NameAt, Vault, VaultKind, folder_of, item_at, key_at, kind_under, name_at,
+    Directory, EntryItem, NameAt, Vault, VaultKind, folder_of, item_of_kind, key_at, kind_under,
+    name_at,
 };
 use vault_spec::Finding;
 
@@ -85,11 +86,10 @@ fn reports_of<F: Folder>(
     dir: &Directory,
     entries: &[Entry],
 ) -> Result<Report, FolderFault>
-    requires { FitsKey vault.now.vault dir.now.key }
+    requires fits { FitsKey vault.now.vault dir.now.key }
+    requires listed { IfSeen (F.told folder.old) (λ v. (entry : Item) → Contains entries.now entry → IsEntryIn (under vault.now.root v) dir.now entry) }
     ensures told { F.told folder.new ≡ F.told folder.old }
-    ensures report { IfOk result (λ report. (v : View) → IsSeen (F.told folder.old) v
-        → ((entry : Item) → Contains entries.now entry → IsEntryIn (under vault.now.root v) dir.now entry)
-        → HasReported (format_of vault.now.vault) (under vault.now.root v) dir.now entries.now report) }
+    ensures report { IfOk result (λ report. IfSeen (F.told folder.old) (λ v. HasReported (format_of vault.now.vault) (under vault.now.root v) dir.now entries.now report)) }
     ensures fits { IfOk result (λ report. FitMembers vault.now.vault report.members.items) }
     ensures counts { CountsAbove (F.faults folder.old) (F.faults folder.new) result }
 {
@@ -131,10 +131,10 @@ fn entry_report<F: Folder>(
     dir: &Directory,
     entry: &Entry,
 ) -> Result<Report, FolderFault>
-    requires { FitsKey vault.now.vault dir.now.key }
+    requires fits { FitsKey vault.now.vault dir.now.key }
+    requires listed { IfSeen (F.told folder.old) (λ v. IsEntryIn (under vault.now.root v) dir.now entry.now) }
     ensures told { F.told folder.new ≡ F.told folder.old }
-    ensures report { IfOk result (λ report. IfSeen (F.told folder.old) (λ v. IsEntryIn (under vault.now.root v) dir.now entry.now
-        → IsReportOf (format_of vault.now.vault) (under vault.now.root v) dir.now entry.now.name report)) }
+    ensures report { IfOk result (λ report. IfSeen (F.told folder.old) (λ v. IsReportOf (format_of vault.now.vault) (under vault.now.root v) dir.now entry.now.name report)) }
     ensures fits { IfOk result (λ report. FitMembers vault.now.vault report.members.items) }
     ensures counts { CountsAbove (F.faults folder.old) (F.faults folder.new) result }
 {
@@ -154,15 +154,16 @@ fn main_report<F: Folder>(
     entry: &Entry,
     at: &FPath,
 ) -> Result<Report, FolderFault>
-    requires { FitsKey vault.now.vault dir.now.key }
+    requires fits { FitsKey vault.now.vault dir.now.key }
+    requires place { at.now ≡ child dir.now.folder entry.now.name }
+    requires listed { IfSeen (F.told folder.old) (λ v. IsEntryIn (under vault.now.root v) dir.now entry.now) }
     ensures told { F.told folder.new ≡ F.told folder.old }
-    ensures report { IfOk result (λ report. IfSeen (F.told folder.old) (λ v. at.now ≡ child dir.now.folder entry.now.name → IsEntryIn (under vault.now.root v) dir.now entry.now
-        → IsMainOf (format_of vault.now.vault) (under vault.now.root v) dir.now entry.now.name report)) }
+    ensures report { IfOk result (λ report. IfSeen (F.told folder.old) (λ v. IsMainOf (format_of vault.now.vault) (under vault.now.root v) dir.now entry.now.name report)) }
     ensures fits { IfOk result (λ report. FitMembers vault.now.vault report.members.items) }
     ensures counts { CountsAbove (F.faults folder.old) (F.faults folder.new) result }
 {
     match name_at(alloc, folder, vault, dir, entry.name.as_str())? {
-        Some(named) => named_report(alloc, folder, vault, at, named),
+        Some(named) => named_report(alloc, folder, vault, at, entry.kind, named),
         None => Ok(unnamed_report(alloc, vault, dir, entry, at)?),
     }
 }
@@ -208,14 +209,16 @@ fn one_member(
     Ok(Report { members, found })
 }
 
-// What the entry of a name is.
+// What the entry of a name is, by the kind of what stands there.
 fn named_report<F: Folder>(
     alloc: Global,
     folder: &mut F,
     vault: &Vault,
     at: &FPath,
+    kind: Kind,
     named: NameAt,
 ) -> Result<Report, FolderFault>
+    requires { IfSeen (F.told folder.old) (λ v. kind ≡ kind_found (under vault.now.root v at.now)) }
     ensures told { F.told folder.new ≡ F.told folder.old }
     ensures report { IfOk result (λ report. IfSeen (F.told folder.old) (λ v. (dir : spec.Directory) (entry : Item) → at.now ≡ child dir.folder entry.name
         → IsEntryIn (under vault.now.root v) dir entry → IsNamed (format_of vault.now.vault) (under vault.now.root v) dir entry.name named
@@ -224,8 +227,8 @@ fn named_report<F: Folder>(
     ensures counts { CountsAbove (F.faults folder.old) (F.faults folder.new) result }
 {
     let NameAt { name, long } = named;
-    let item = item_at(folder, vault, at, long)?;
-    let found = found_inside(alloc, folder, vault, at, long, item)?;
+    let item = item_of_kind(folder, vault, at, kind, long)?;
+    let found = found_inside(alloc, folder, vault, at, kind, long, item)?;
     match item {
         EntryItem::Directory => {
             let lead = lead_at(alloc, folder, vault, at)?;

@@ -1,6 +1,7 @@
 use Rattle.std.proofs.Common.{◌≡◌, sym, ap, ◌∙◌, subst}
 use Rattle.folder_spec.specs.Listing.{IsListing}
 use Rattle.folder_spec.specs.Seen.{under}
+use Rattle.folder_spec.specs.View.{kind_found}
 use Rattle.vault_read.specs.Items.{item_of}
 use Rattle.vault_read.specs.Opened.{kind_of}
 use Rattle.vault_read.specs.declared.vault.VaultKind.TheVariants as kind
@@ -10,6 +11,10 @@ use Rattle.vault_walk.specs.Extras.{extras}
 use Rattle.vault_walk.specs.Report.{AreInside}
 use Rattle.vault_walk.proofs.ExtraEntries.{inside_cm}
 use Rattle.vault_walk.proofs.inside.found_inside.Goals as goal
+
+pub entries_of_kind-requires : goal.entries_of_kind-requires
+entries_of_kind-requires g c v is =
+    subst (λ r. c.args.kind ≡ kind_found (under r v c.args.at.now)) (sym c.root.ensures) (c.requires v is)
 
 pub returns-in_ok-extras-in-Cryptomator-clause-found :
     goal.returns-in_ok-extras-in-Cryptomator-clause-found

@@ -7,6 +7,9 @@ use Rattle.vault_walk.proofs.EntryReports.{lead_fits, leaf_fits, main_directory,
 use Rattle.vault_walk.proofs.Finds.{finds_right}
 use Rattle.vault_walk.proofs.report.named_report.Goals as goal
 
+pub found_inside-requires : goal.found_inside-requires
+found_inside-requires g c v is = c.requires v (subst (λ t. IsSeen t v) c.in_ok-item.ensures.told is)
+
 pub returns-in_ok-directory_report-in-Directory-clause-report :
     goal.returns-in_ok-directory_report-in-Directory-clause-report
 returns-in_ok-directory_report-in-Directory-clause-report g c v is dir entry place listed named =
@@ -14,7 +17,7 @@ returns-in_ok-directory_report-in-Directory-clause-report g c v is dir entry pla
     let w = under c.args.vault.now.root v in
     let at = c.args.at.now in
     let report = c.in_ok-directory_report-in-Directory.field-0 in
-    let item_is = c.in_ok-item.ensures.item v is in
+    let item_is = c.in_ok-item.ensures.item v is (c.requires v is) in
     let seen = subst (λ t. IsSeen t v) (sym c.in_ok-item.ensures.told) is in
     let lead_is = c.in_ok-lead-in-Directory.ensures.lead v (subst (λ t. IsSeen t v) (sym c.in_ok-found.ensures.told) seen) in
     main_directory (format_of vault) (finds_right vault) w dir entry.name at c.args.named place named report c.in_ok-found.found.items (sym item_is ∙ ap item_of c.in-Directory.is)
@@ -38,7 +41,7 @@ returns-in_ok-leaf_report-in_default-clause-report g c v is dir entry place list
     let w = under c.args.vault.now.root v in
     let at = c.args.at.now in
     let report = c.in_ok-leaf_report-in_default.field-0 in
-    let item_is = c.in_ok-item.ensures.item v is in
+    let item_is = c.in_ok-item.ensures.item v is (c.requires v is) in
     let inside
     = subst (λ i. AreInside (format_of vault) w at c.args.named.long i c.in_ok-found.found.items) item_is
     (c.in_ok-found.ensures.found v (subst (λ t. IsSeen t v) (sym c.in_ok-item.ensures.told) is)) in

@@ -18,6 +18,13 @@ fit_both vault one two all e fits more member there = by_place (Contains-append_
     by_place (inl old) = fits member old
     by_place (inr new) = more member new
 
+pub entry_report-requires-clause-listed : goal.entry_report-requires-clause-listed
+entry_report-requires-clause-listed g c v is =
+    let entries = c.args.entries.now in
+    let e : Item = c.entry-item.result in
+    c.requires.listed v (subst (λ t. IsSeen t v) c.loop-entry.invariant.told is) e
+    (subst (Contains entries) (sym c.entry-item.is) (Contains-get_or entries c.loop-entry.entry-index e c.loop-entry-test.true))
+
 pub loop-entry-preserved : goal.loop-entry-preserved
 loop-entry-preserved g c =
     let vault = c.args.vault.now.vault in
@@ -34,12 +41,10 @@ loop-entry-preserved g c =
       told = c.in_ok-more.ensures.told ∙ c.loop-entry.invariant.told;
       grows = omega (arith, c.loop-entry.invariant.grows, counts);
       fits = fit_both vault report.members.items more.members.items all.members.items c.in_ok-add.ensures.members c.loop-entry.invariant.fits c.in_ok-more.ensures.fits;
-      reported = λ v is listed.
+      reported = λ v is.
           let w = under c.args.vault.now.root v in
-          let among : Contains entries e = subst (Contains entries) (sym c.entry-item.is) (Contains-get_or entries i e c.loop-entry-test.true) in
-          let its : IsReportOf f w dir e.name more
-          = c.in_ok-more.ensures.report v (subst (λ t. IsSeen t v) (sym c.loop-entry.invariant.told) is) (listed e among) in
+          let its : IsReportOf f w dir e.name more = c.in_ok-more.ensures.report v (subst (λ t. IsSeen t v) (sym c.loop-entry.invariant.told) is) in
           subst (λ es. HasReported f w dir es all)
           (sym (take_more entries i e c.loop-entry-test.true ∙ ap (λ x. take i entries ++ x ∷ []) (sym c.entry-item.is)))
-          (one_more_reported f w dir (take i entries) e report more all (c.loop-entry.invariant.reported v is listed) its c.in_ok-add.ensures.members c.in_ok-add.ensures.found);
+          (one_more_reported f w dir (take i entries) e report more all (c.loop-entry.invariant.reported v is) its c.in_ok-add.ensures.members c.in_ok-add.ensures.found);
     }

@@ -25,7 +25,7 @@ use Rattle.vault_spec.specs.declared.Finding.TheVariants as is
 use Rattle.vault_spec.specs.declared.Lack.{Lack}
 use Rattle.vault_spec.specs.declared.Lack.TheVariants as lacks
 use Rattle.vault_walk.specs.Here.{IsFindingHere, IsInsideHere, IsLockedHere, IsNoItemHere, IsOrphanHere, IsIdleHere, IsUnnamedHere}
-use Rattle.vault_walk.specs.Report.{HasReported, HaveOwnNames, IsBelow, IsEntryIn, IsFoundHere, IsMember, IsReport, IsReportOf, is_told}
+use Rattle.vault_walk.specs.Report.{Addition, HasReported, HaveOwnNames, IsBelow, IsEntryIn, IsFoundHere, IsMember, IsReport, IsReportOf, is_told}
 use Rattle.vault_walk.specs.declared.found.Found.{Found}
 use Rattle.vault_walk.specs.declared.report.Member.{Member}
 use Rattle.vault_walk.specs.declared.report.Report.{Report}
@@ -48,15 +48,15 @@ module _ (f : Format) (v : View) (dir : Directory) where
     found = λ x. (λ there. absurd (none_within x (subst (λ xs. Contains xs x) found there)), λ is_found. absurd (none_within is_found.0 is_found.1));
   }
 
-  module _ (entries : List folder.Item) (e : folder.Item) (report more all : Report) (before : HasReported f v dir entries report) (its : IsReportOf f v dir e.name more)
-      (members : all.members.items ≡ report.members.items ++ more.members.items) (found : all.found.items ≡ report.found.items ++ more.found.items) where
-    in_all : (member : Member) → Contains (report.members.items ++ more.members.items) member → Contains all.members.items member
+  module _ (entries : List folder.Item) (e : folder.Item) (report : Report) (more : Addition) (all : Report) (before : HasReported f v dir entries report) (its : IsReportOf f v dir e.name more)
+      (members : all.members.items ≡ report.members.items ++ more.members) (found : all.found.items ≡ report.found.items ++ more.found) where
+    in_all : (member : Member) → Contains (report.members.items ++ more.members) member → Contains all.members.items member
     in_all member there = subst (λ ms. Contains ms member) (sym members) there
 
     old : (entry : folder.Item) → Contains entries entry → Contains (entries ++ e ∷ []) entry
     old entry there = Contains-append_left entries (e ∷ []) entry there
 
-    sound_by : (member : Member) → Contains report.members.items member ⊎ Contains more.members.items member
+    sound_by : (member : Member) → Contains report.members.items member ⊎ Contains more.members member
         → (entry : folder.Item) × Contains (entries ++ e ∷ []) entry × IsMember f v dir member × ((f.stored dir.key member.name).name ≡ entry.name)
     sound_by member (inl there) = let s = before.sound member there in (s.0, old s.0 s.1, s.2, s.3)
     sound_by member (inr there) = let s = its.sound member there in (e, Contains-push entries e, s.0, s.1)
@@ -65,10 +65,10 @@ module _ (f : Format) (v : View) (dir : Directory) where
         → (f.stored dir.key name).name ≡ entry.name → (member : Member) × Contains all.members.items member × (member.name ≡ name)
     complete_by entry name node (inl there) stands same =
         let c = before.complete entry name node there stands same in
-        (c.0, in_all c.0 (Contains-append_left report.members.items more.members.items c.0 c.1), c.2)
+        (c.0, in_all c.0 (Contains-append_left report.members.items more.members c.0 c.1), c.2)
     complete_by entry name node (inr is_e) stands same =
         let c = its.complete name node stands (same ∙ ap (λ (x : folder.Item). x.name) (sym is_e)) in
-        (c.0, in_all c.0 (Contains-append_right report.members.items more.members.items c.0 c.1), c.2)
+        (c.0, in_all c.0 (Contains-append_right report.members.items more.members c.0 c.1), c.2)
 
     -- an entry that was looked at has another name
     earlier : AreOwn (entries ++ e ∷ []) → (entry : folder.Item) → Contains entries entry → entry.name ≢ e.name
@@ -80,9 +80,9 @@ module _ (f : Format) (v : View) (dir : Directory) where
         own there.0 (length entries) entry (omega (arith, within)) (omega (arith, sizes))
         (ap (λ (x : folder.Item). x.name) first ∙ same ∙ sym (ap (λ (x : folder.Item). x.name) last))
 
-    apart_by : AreOwn (entries ++ e ∷ []) → HaveOwnNames (report.members.items ++ more.members.items)
+    apart_by : AreOwn (entries ++ e ∷ []) → HaveOwnNames (report.members.items ++ more.members)
     apart_by own =
-        pairs_of_both (λ (x y : Member). x.name ≢ y.name) report.members.items more.members.items
+        pairs_of_both (λ (x y : Member). x.name ≢ y.name) report.members.items more.members
         (before.apart (pairs_of_front (λ (x y : folder.Item). x.name ≢ y.name) entries (e ∷ []) own)) its.apart
         (λ x y one two same.
         let s = before.sound x one in
@@ -91,25 +91,25 @@ module _ (f : Format) (v : View) (dir : Directory) where
     IsFoundAt : folder.Item → Found → Type 0
     IsFoundAt entry x = IsFoundHere f v dir x × IsBelow (child dir.folder entry.name) x.at
 
-    found_on : (x : Found) → Contains report.found.items x ⊎ Contains more.found.items x
+    found_on : (x : Found) → Contains report.found.items x ⊎ Contains more.found x
         → (entry : folder.Item) × Contains (entries ++ e ∷ []) entry × IsFoundHere f v dir x × IsBelow (child dir.folder entry.name) x.at
     found_on x (inl there) = let s = (before.found x).0 there in (s.0, old s.0 s.1, s.2, s.3)
     found_on x (inr there) = let s = (its.found x).0 there in (e, Contains-push entries e, s.0, s.1)
 
     found_back : (x : Found) (entry : folder.Item) → Contains entries entry ⊎ (e ≡ entry) → IsFoundHere f v dir x → IsBelow (child dir.folder entry.name) x.at
-        → Contains (report.found.items ++ more.found.items) x
-    found_back x entry (inl there) here below = Contains-append_left report.found.items more.found.items x ((before.found x).1 (entry, there, here, below))
+        → Contains (report.found.items ++ more.found) x
+    found_back x entry (inl there) here below = Contains-append_left report.found.items more.found x ((before.found x).1 (entry, there, here, below))
     found_back x entry (inr is_e) here below =
-        Contains-append_right report.found.items more.found.items x
+        Contains-append_right report.found.items more.found x
         ((its.found x).1 (here, subst (λ (y : folder.Item). IsBelow (child dir.folder y.name) x.at) (sym is_e) below))
 
     pub one_more_reported : HasReported f v dir (entries ++ e ∷ []) all
     one_more_reported = record {
-      sound = λ member there. sound_by member (Contains-append_cases report.members.items more.members.items member (subst (λ ms. Contains ms member) members there));
+      sound = λ member there. sound_by member (Contains-append_cases report.members.items more.members member (subst (λ ms. Contains ms member) members there));
       complete = λ entry name node there stands same. complete_by entry name node (Contains-push_cases entries e entry there) stands same;
       apart = λ own. subst HaveOwnNames (sym members) (apart_by own);
       found = λ x. (
-        λ there. found_on x (Contains-append_cases report.found.items more.found.items x (subst (λ xs. Contains xs x) found there)),
+        λ there. found_on x (Contains-append_cases report.found.items more.found x (subst (λ xs. Contains xs x) found there)),
         λ is_found. subst (λ xs. Contains xs x) (sym found) (found_back x is_found.0 (Contains-push_cases entries e is_found.0 is_found.1) is_found.2 is_found.3),
       );
     }

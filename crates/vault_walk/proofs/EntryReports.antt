@@ -1,4 +1,4 @@
--- The report of an entry that is of a name, by what the entry is.
+-- What an entry that is of a name adds to a report, by what the entry is.
 use Rattle.std.proofs.Common.{◌≡◌, ◌≢◌, ◌⊎◌, ◌↔◌, ◌<◌, ◌++◌, ◌∷◌, [], ℕ, true, List, Some, Err, inl, inr, refl, sym, ap, ◌∙◌, subst, append-nil, arith}
 use Rattle.std.specs.Prelude.{Contains}
 use Rattle.std.proofs.lemmas.List.Elements.{Contains-append_left, Contains-append_right, Contains-append_cases, Contains-push}
@@ -21,12 +21,11 @@ use Rattle.vault_read.specs.Items.{item_of}
 use Rattle.vault_read.specs.declared.items.EntryItem.{EntryItem}
 use Rattle.vault_read.specs.declared.items.EntryItem.TheVariants as items
 use Rattle.vault_read.specs.declared.listing.NameAt.{NameAt}
-use Rattle.vault_walk.specs.Report.{AreInside, HaveOwnNames, IsDirectoryReport, IsEntryIn, IsMainOf, IsMember, IsNamed, LeadsRight, FitMembers, FitsLead, FitsWhat, found_by, lack_by, lead_of, leaf_found, leaf_members, standing_by}
+use Rattle.vault_walk.specs.Report.{Addition, AreInside, HaveOwnNames, IsEntryIn, IsLeadOf, IsMainOf, IsMember, IsNamed, LeadsRight, FitMembers, FitsLead, FitsWhat, found_by, lack_by, lead_of, leaf_found, leaf_members, standing_by}
 use Rattle.vault_walk.specs.declared.found.Found.{Found}
 use Rattle.vault_walk.specs.declared.report.Lead.{Lead}
 use Rattle.vault_walk.specs.declared.report.Lead.TheVariants as lead
 use Rattle.vault_walk.specs.declared.report.Member.{Member}
-use Rattle.vault_walk.specs.declared.report.Report.{Report}
 use Rattle.vault_walk.specs.declared.report.What.TheVariants as what
 use Rattle.vault_walk.proofs.Finds.{FindsRight}
 use Rattle.vault_walk.proofs.Flats.{none_within, only_one}
@@ -56,19 +55,35 @@ one_apart member i j d less within =
     let last : j < 1 = within in
     absurd (omega (arith, first, last))
 
+fit_both : (vault : Vault) (one two all : List Member) → all ≡ one ++ two → FitMembers vault one → FitMembers vault two → FitMembers vault all
+fit_both vault one two all e fits more member there = by_place (Contains-append_cases one two member (subst (λ ms. Contains ms member) e there))
+  where
+    by_place : Contains one member ⊎ Contains two member → FitsWhat vault member.what
+    by_place (inl old) = fits member old
+    by_place (inr new) = more member new
+
+one_fits : (vault : Vault) (m : Member) → FitsWhat vault m.what → FitMembers vault (m ∷ [])
+one_fits vault m fits member there = subst (λ (x : Member). FitsWhat vault x.what) (only_one m member there) fits
+
+none_fits : (vault : Vault) → FitMembers vault []
+none_fits vault member there = absurd (none_within member there)
+
 -- no directory is led to
-pub leaf_fits : (vault : Vault) (at : Path) (name : List ℕ) (item : EntryItem) (members : List Member) → members ≡ leaf_members at name item → FitMembers vault members
-leaf_fits vault at name items.EntryFile members is member there = subst (λ (m : Member). FitsWhat vault m.what) (only_one (record { name = name; at = at; what = what.File }) member (subst (λ ms. Contains ms member) is there)) tt
-leaf_fits vault at name items.ContentFile members is member there =
-    subst (λ (m : Member). FitsWhat vault m.what) (only_one (record { name = name; at = child at content_file; what = what.File }) member (subst (λ ms. Contains ms member) is there)) tt
-leaf_fits vault at name items.Directory members is member there = absurd (none_within member (subst (λ ms. Contains ms member) is there))
-leaf_fits vault at name items.Nothing members is member there = absurd (none_within member (subst (λ ms. Contains ms member) is there))
-leaf_fits vault at name (items.NoItem finding) members is member there = absurd (none_within member (subst (λ ms. Contains ms member) is there))
+pub leaf_fits : (vault : Vault) (at : Path) (name : List ℕ) (item : EntryItem) (before after : List Member) → after ≡ before ++ leaf_members at name item → FitMembers vault before → FitMembers vault after
+leaf_fits vault at name item before after added fits = fit_both vault before (leaf_members at name item) after added fits (by_item item)
+  where
+    by_item : (item : EntryItem) → FitMembers vault (leaf_members at name item)
+    by_item items.EntryFile = one_fits vault (record { name = name; at = at; what = what.File }) tt
+    by_item items.ContentFile = one_fits vault (record { name = name; at = child at content_file; what = what.File }) tt
+    by_item items.Directory = none_fits vault
+    by_item items.Nothing = none_fits vault
+    by_item (items.NoItem finding) = none_fits vault
 
 -- a directory whose key fits is led to
-pub lead_fits : (vault : Vault) (at : Path) (name : List ℕ) (its_lead : Lead) (members : List Member) → members ≡ (record { name = name; at = at; what = what.Dir its_lead }) ∷ [] → FitsLead vault its_lead → FitMembers vault members
-lead_fits vault at name its_lead members is fits member there =
-    subst (λ (m : Member). FitsWhat vault m.what) (only_one (record { name = name; at = at; what = what.Dir its_lead }) member (subst (λ ms. Contains ms member) is there)) fits
+pub lead_fits : (vault : Vault) (at : Path) (name : List ℕ) (its_lead : Lead) (before after : List Member) → after ≡ before ++ (record { name = name; at = at; what = what.Dir its_lead }) ∷ [] → FitsLead vault its_lead
+    → FitMembers vault before → FitMembers vault after
+lead_fits vault at name its_lead before after added its_fits fits =
+    fit_both vault before ((record { name = name; at = at; what = what.Dir its_lead }) ∷ []) after added fits (one_fits vault (record { name = name; at = at; what = what.Dir its_lead }) its_fits)
 
 -- the items of an entry
 pub record AreMembersOf (f : Format) (v : View) (dir : Directory) (entry : Part) (members : List Member) : Type 0 where
@@ -101,8 +116,8 @@ module _ (f : Format) (right : FindsRight f) (v : View) (dir : Directory) (entry
         ap (λ n. (f.stored dir.key n).name) name ∙ its.of.stores,
       )
 
-  main_of : (report : Report) → AreMembersOf f v dir entry report.members.items → ((x : Found) → Contains report.found.items x ↔ IsFoundOf f v at named.long (f.item named.long (under at v)) x) → IsMainOf f v dir entry report
-  main_of report members found = record {
+  main_of : (more : Addition) → AreMembersOf f v dir entry more.members → ((x : Found) → Contains more.found x ↔ IsFoundOf f v at named.long (f.item named.long (under at v)) x) → IsMainOf f v dir entry more
+  main_of more members found = record {
     sound = members.sound;
     complete = members.complete;
     apart = members.apart;
@@ -116,47 +131,47 @@ module _ (f : Format) (right : FindsRight f) (v : View) (dir : Directory) (entry
       = ap (λ n. v (child dir.folder n)) name ∙ ap v (sym place ∙ sym (append-nil at)) ∙ right.present named.long (under at v) item in
       listed.there (sym listed.kind ∙ ap kind_found none)
 
-  pub main_file : (report : Report) (rest : Path) → f.item named.long (under at v) ≡ FileItem rest → report.members.items ≡ (record { name = named.name; at = at ++ rest; what = what.File }) ∷ []
-      → AreInside f v at named.long (f.item named.long (under at v)) report.found.items → IsMainOf f v dir entry report
-  main_file report rest item members inside =
-      main_of report (one_held report.members.items (record { name = named.name; at = at ++ rest; what = what.File }) members refl (ap (standing_of f v at true) item) tt)
-      (λ x. (λ there. Inside ((inside x).0 there), back x))
+  main_file : (rest : Path) (inside : List Found) → f.item named.long (under at v) ≡ FileItem rest → AreInside f v at named.long (f.item named.long (under at v)) inside
+      → IsMainOf f v dir entry (record { members = (record { name = named.name; at = at ++ rest; what = what.File }) ∷ []; found = inside })
+  main_file rest inside item are =
+      main_of (record { members = m ∷ []; found = inside }) (one_held (m ∷ []) m refl refl (ap (standing_of f v at true) item) tt) (λ x. (λ there. Inside ((are x).0 there), back x))
     where
-      back : (x : Found) → IsFoundOf f v at named.long (f.item named.long (under at v)) x → Contains report.found.items x
+      m : Member
+      m = record { name = named.name; at = at ++ rest; what = what.File }
+
+      back : (x : Found) → IsFoundOf f v at named.long (f.item named.long (under at v)) x → Contains inside x
       back x (Odd finding other x_at number) = let clash : FileItem rest ≡ NoItem finding = sym item ∙ other in cc clash
       back x (Locked lack other lead x_at number) = let clash : FileItem rest ≡ DirectoryItem = sym item ∙ other in cc clash
-      back x (Inside u) = (inside x).1 u
+      back x (Inside u) = (are x).1 u
 
-  pub main_odd : (report : Report) (finding : Finding) → f.item named.long (under at v) ≡ NoItem finding → report.members.items ≡ []
-      → report.found.items ≡ found_by at (Some finding) → IsMainOf f v dir entry report
-  main_odd report finding item members found =
-      main_of report (none_held report.members.items members (λ node stands. no_node node (ap (λ i. node_of (standing_of f v at true i)) (sym item) ∙ stands)))
+  main_odd : (finding : Finding) → f.item named.long (under at v) ≡ NoItem finding → IsMainOf f v dir entry (record { members = []; found = found_by at (Some finding) })
+  main_odd finding item =
+      main_of (record { members = []; found = found_by at (Some finding) })
+      (none_held [] refl (λ node stands. no_node node (ap (λ i. node_of (standing_of f v at true i)) (sym item) ∙ stands)))
       (λ x. (on x, back x))
     where
       no_node : (node : NodeKind) → node_of (standing_of f v at true (NoItem finding)) ≡ Some node → ⊥
       no_node node e = cc
 
-      on : (x : Found) → Contains report.found.items x → IsFoundOf f v at named.long (f.item named.long (under at v)) x
-      on x there = let one = by_on at finding x (subst (λ xs. Contains xs x) found there) in Odd finding item one.0 one.1
+      on : (x : Found) → Contains (found_by at (Some finding)) x → IsFoundOf f v at named.long (f.item named.long (under at v)) x
+      on x there = let one = by_on at finding x there in Odd finding item one.0 one.1
 
-      back : (x : Found) → IsFoundOf f v at named.long (f.item named.long (under at v)) x → Contains report.found.items x
+      back : (x : Found) → IsFoundOf f v at named.long (f.item named.long (under at v)) x → Contains (found_by at (Some finding)) x
       back x (Odd other also x_at number) =
           let both : NoItem other ≡ NoItem finding = sym also ∙ item in
           let same : other ≡ finding = cc in
-          subst (λ xs. Contains xs x) (sym found) (by_back at finding x x_at (number ∙ ap number_of same))
+          by_back at finding x x_at (number ∙ ap number_of same)
       back x (Locked lack other lead x_at number) = let clash : NoItem finding ≡ DirectoryItem = sym item ∙ other in cc clash
       back x (Inside u) = absurd (right.inner_odd named.long finding u.entry (v x.at) (ap (λ i. f.inner_role named.long i u.entry (v x.at)) (sym item) ∙ u.extra))
 
-  pub main_leaf : (e : folder.Item) (report : Report) (item : EntryItem) (inside : List Found) → e.name ≡ entry → IsEntryIn v dir e → item ≢ items.Directory → item_of item ≡ f.item named.long (under at v)
-      → report.members.items ≡ leaf_members at named.name item → report.found.items ≡ leaf_found at item inside → AreInside f v at named.long (f.item named.long (under at v)) inside → IsMainOf f v dir entry report
-  main_leaf e report items.Nothing inside name listed other is members found are = absurd (main_nothing e name listed (sym is))
-  main_leaf e report items.EntryFile inside name listed other is members found are =
-      main_file report [] (sym is) (members ∙ ap (λ p. (record { name = named.name; at = p; what = what.File }) ∷ []) (sym (append-nil at)))
-      (subst (AreInside f v at named.long (f.item named.long (under at v))) (sym found) are)
-  main_leaf e report items.ContentFile inside name listed other is members found are =
-      main_file report (content_file ∷ []) (sym is) members (subst (AreInside f v at named.long (f.item named.long (under at v))) (sym found) are)
-  main_leaf e report items.Directory inside name listed other is members found are = absurd (other refl)
-  main_leaf e report (items.NoItem finding) inside name listed other is members found are = main_odd report finding (sym is) members found
+  pub main_leaf : (e : folder.Item) (item : EntryItem) (inside : List Found) → e.name ≡ entry → IsEntryIn v dir e → item ≢ items.Directory → item_of item ≡ f.item named.long (under at v)
+      → AreInside f v at named.long (f.item named.long (under at v)) inside → IsMainOf f v dir entry (record { members = leaf_members at named.name item; found = leaf_found at item inside })
+  main_leaf e items.Nothing inside name listed other is are = absurd (main_nothing e name listed (sym is))
+  main_leaf e items.EntryFile inside name listed other is are =
+      subst (λ p. IsMainOf f v dir entry (record { members = (record { name = named.name; at = p; what = what.File }) ∷ []; found = inside })) (append-nil at) (main_file [] inside (sym is) are)
+  main_leaf e items.ContentFile inside name listed other is are = main_file (content_file ∷ []) inside (sym is) are
+  main_leaf e items.Directory inside name listed other is are = absurd (other refl)
+  main_leaf e (items.NoItem finding) inside name listed other is are = main_odd finding (sym is)
 
   -- what a directory item lacks
   lack_on : (its_lead : Lead) (x : Found) → f.item named.long (under at v) ≡ DirectoryItem → directory_with f v at (key_of f (under at v)) ≡ lead_of its_lead → Contains (found_by at (lack_by its_lead)) x
@@ -172,26 +187,27 @@ module _ (f : Format) (right : FindsRight f) (v : View) (dir : Directory) (entry
       let same : lack ≡ lacks.NoFolder = cc in by_back at is.NoFolder x x_at (number ∙ ap (λ l. number_of (finding_of l)) same)
   lack_back (lead.To to) lack x e x_at number = cc
 
-  pub main_directory : (report : Report) (inside : List Found) → f.item named.long (under at v) ≡ DirectoryItem → IsDirectoryReport f v at named.name inside report
-      → AreInside f v at named.long (f.item named.long (under at v)) inside → IsMainOf f v dir entry report
-  main_directory report inside item is_report are =
-      main_of report (one_held report.members.items (record { name = named.name; at = at; what = what.Dir is_report.lead }) is_report.members refl stands is_report.leads) (λ x. (on x, back x))
+  pub main_directory : (its_lead : Lead) (inside : List Found) → f.item named.long (under at v) ≡ DirectoryItem → IsLeadOf f v at its_lead
+      → AreInside f v at named.long (f.item named.long (under at v)) inside
+      → IsMainOf f v dir entry (record { members = (record { name = named.name; at = at; what = what.Dir its_lead }) ∷ []; found = inside ++ found_by at (lack_by its_lead) })
+  main_directory its_lead inside item leads are =
+      main_of (record { members = m ∷ []; found = inside ++ found_by at (lack_by its_lead) }) (one_held (m ∷ []) m refl refl stands leads) (λ x. (on x, within x))
     where
-      stands : standing_of f v at true (f.item named.long (under at v)) ≡ Dir at (lead_of is_report.lead)
-      stands = ap (standing_of f v at true) item ∙ ap (Dir at) is_report.leads.directory
+      m : Member
+      m = record { name = named.name; at = at; what = what.Dir its_lead }
 
-      by_place : (x : Found) → Contains inside x ⊎ Contains (found_by at (lack_by is_report.lead)) x → IsFoundOf f v at named.long (f.item named.long (under at v)) x
+      stands : standing_of f v at true (f.item named.long (under at v)) ≡ Dir at (lead_of its_lead)
+      stands = ap (standing_of f v at true) item ∙ ap (Dir at) leads.directory
+
+      by_place : (x : Found) → Contains inside x ⊎ Contains (found_by at (lack_by its_lead)) x → IsFoundOf f v at named.long (f.item named.long (under at v)) x
       by_place x (inl there) = Inside ((are x).0 there)
-      by_place x (inr there) = lack_on is_report.lead x item is_report.leads.directory there
+      by_place x (inr there) = lack_on its_lead x item leads.directory there
 
-      on : (x : Found) → Contains report.found.items x → IsFoundOf f v at named.long (f.item named.long (under at v)) x
-      on x there = by_place x (Contains-append_cases inside (found_by at (lack_by is_report.lead)) x (subst (λ xs. Contains xs x) is_report.found there))
+      on : (x : Found) → Contains (inside ++ found_by at (lack_by its_lead)) x → IsFoundOf f v at named.long (f.item named.long (under at v)) x
+      on x there = by_place x (Contains-append_cases inside (found_by at (lack_by its_lead)) x there)
 
-      within : (x : Found) → IsFoundOf f v at named.long (f.item named.long (under at v)) x → Contains (inside ++ found_by at (lack_by is_report.lead)) x
+      within : (x : Found) → IsFoundOf f v at named.long (f.item named.long (under at v)) x → Contains (inside ++ found_by at (lack_by its_lead)) x
       within x (Odd finding other x_at number) = let clash : DirectoryItem ≡ NoItem finding = sym item ∙ other in cc clash
       within x (Locked lack other directory x_at number) =
-          Contains-append_right inside (found_by at (lack_by is_report.lead)) x (lack_back is_report.lead lack x (sym is_report.leads.directory ∙ directory) x_at number)
-      within x (Inside u) = Contains-append_left inside (found_by at (lack_by is_report.lead)) x ((are x).1 u)
-
-      back : (x : Found) → IsFoundOf f v at named.long (f.item named.long (under at v)) x → Contains report.found.items x
-      back x is_found = subst (λ xs. Contains xs x) (sym is_report.found) (within x is_found)
+          Contains-append_right inside (found_by at (lack_by its_lead)) x (lack_back its_lead lack x (sym leads.directory ∙ directory) x_at number)
+      within x (Inside u) = Contains-append_left inside (found_by at (lack_by its_lead)) x ((are x).1 u)

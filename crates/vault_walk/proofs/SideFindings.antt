@@ -1,5 +1,5 @@
 -- What is found of an entry is what is found of it and below it, and what is found of it as a long-name file.
-use Rattle.std.proofs.Common.{◌≡◌, ◌≢◌, ◌⊎◌, ◌++◌, [], true, Option, Some, None, inl, inr, refl, sym, ap, ◌∙◌, subst, append-nil}
+use Rattle.std.proofs.Common.{◌≡◌, ◌≢◌, ◌⊎◌, ◌++◌, [], true, Option, Some, None, inl, inr, refl, sym, ap, ◌∙◌, subst, append-nil, append_assoc}
 use Rattle.std.specs.Prelude.{Contains}
 use Rattle.std.proofs.lemmas.List.Elements.{Contains-append_left, Contains-append_right, Contains-append_cases}
 use Rattle.folder_spec.specs.Listing as folder
@@ -10,7 +10,7 @@ use Rattle.vault_spec.specs.Format.{Format, Directory}
 use Rattle.vault_spec.specs.declared.Finding.{Finding}
 use Rattle.vault_spec.specs.declared.Finding.TheVariants as is
 use Rattle.vault_walk.specs.Here.{IsFindingHere, IsIdleHere, IsOrphanHere}
-use Rattle.vault_walk.specs.Report.{HaveOwnNames, IsBelow, IsFoundHere, IsMainFound, IsMainOf, IsReportOf, IsSideOf, found_by, is_main, is_told}
+use Rattle.vault_walk.specs.Report.{Addition, HasAdded, IsBelow, IsFoundHere, IsMainFound, IsMainOf, IsReportOf, IsSideOf, found_by, is_main, is_told}
 use Rattle.vault_walk.specs.declared.found.Found.{Found}
 use Rattle.vault_walk.specs.declared.report.Report.{Report}
 use Rattle.vault_walk.proofs.EntryReports.{by_back, by_on}
@@ -109,31 +109,41 @@ module _ (f : Format) (v : View) (dir : Directory) (entry : folder.Item) (at : P
       let x_at = same_place x.at o.file o.place below in
       side_found side is.EmptyOrphan x (s.idle.1 (subst (IsIdleHere f v dir) x_at o)) number x_at
 
-  pub with_side : (main report : Report) (side : Option Finding) → IsMainOf f v dir entry.name main → IsSideOf f v dir entry side → report.members.items ≡ main.members.items
-      → report.found.items ≡ main.found.items ++ found_by at side → IsReportOf f v dir entry.name report
-  with_side main report side m s members found = record {
-    sound = λ member there. m.sound member (subst (λ ms. Contains ms member) members there);
-    complete = λ name node stands same. let held = m.complete name node stands same in (held.0, subst (λ ms. Contains ms held.0) (sym members) held.1, held.2);
-    apart = subst HaveOwnNames (sym members) m.apart;
+  with_side : (main : Addition) (side : Option Finding) → IsMainOf f v dir entry.name main → IsSideOf f v dir entry side
+      → IsReportOf f v dir entry.name (record { members = main.members; found = found_by at side ++ main.found })
+  with_side main side m s = record {
+    sound = m.sound;
+    complete = m.complete;
+    apart = m.apart;
     found = λ x. (
-      λ there. on x (Contains-append_cases main.found.items (found_by at side) x (subst (λ xs. Contains xs x) found there)),
-      λ is_found. subst (λ xs. Contains xs x) (sym found) (back x is_found.0.finding is_found.0.number is_found.0.here is_found.1 (of_one is_found.0.finding is_found.0.told)),
+      λ there. on x (Contains-append_cases (found_by at side) main.found x there),
+      λ is_found. back x is_found.0.finding is_found.0.number is_found.0.here is_found.1 (of_one is_found.0.finding is_found.0.told),
     );
   }
     where
-      on : (x : Found) → Contains main.found.items x ⊎ Contains (found_by at side) x → IsFoundHere f v dir x × IsBelow (child dir.folder entry.name) x.at
-      on x (inl there) =
+      on : (x : Found) → Contains (found_by at side) x ⊎ Contains main.found x → IsFoundHere f v dir x × IsBelow (child dir.folder entry.name) x.at
+      on x (inl there) = side_on side s x there
+      on x (inr there) =
           let of : IsMainFound f v dir entry.name x = (m.found x).0 there in
           (record { finding = of.finding; number = of.number; told = main_told of.finding of.main; here = of.here }, of.below)
-      on x (inr there) = side_on side s x there
 
       back : (x : Found) (finding : Finding) → x.number ≡ number_of finding → IsFindingHere f v dir finding x.at → IsBelow (child dir.folder entry.name) x.at → IsOf finding
-          → Contains (main.found.items ++ found_by at side) x
+          → Contains (found_by at side ++ main.found) x
       back x finding number here below (OfEntry is_of) =
-          Contains-append_left main.found.items (found_by at side) x ((m.found x).1 (record { finding = finding; number = number; main = is_of; here = here; below = below }))
+          Contains-append_right (found_by at side) main.found x ((m.found x).1 (record { finding = finding; number = number; main = is_of; here = here; below = below }))
       back x finding number here below (OfOrphan same) =
-          Contains-append_right main.found.items (found_by at side) x
+          Contains-append_left (found_by at side) main.found x
           (orphan_back side s x (number ∙ ap number_of same) (subst (λ k. IsFindingHere f v dir k x.at) same here) below)
       back x finding number here below (OfIdle same) =
-          Contains-append_right main.found.items (found_by at side) x
+          Contains-append_left (found_by at side) main.found x
           (idle_back side s x (number ∙ ap number_of same) (subst (λ k. IsFindingHere f v dir k x.at) same here) below)
+
+  -- what is added as of a long-name file, and then as of the entry itself
+  pub both_added : (before middle after : Report) (side : Option Finding) → IsSideOf f v dir entry side → middle.members.items ≡ before.members.items
+      → middle.found.items ≡ before.found.items ++ found_by at side → HasAdded (IsMainOf f v dir entry.name) middle after → HasAdded (IsReportOf f v dir entry.name) before after
+  both_added before middle after side s same found main = record {
+    more = record { members = main.more.members; found = found_by at side ++ main.more.found };
+    right = with_side main.more side main.right s;
+    members = main.members ∙ ap (λ ms. ms ++ main.more.members) same;
+    found = main.found ∙ ap (λ xs. xs ++ main.more.found) found ∙ append_assoc before.found.items (found_by at side) main.more.found;
+  }

@@ -16,9 +16,8 @@ use Rattle.plain_tree.specs.declared.NodeKind.TheVariants as node
 use Rattle.vault_read.specs.Opened.{kind_of}
 use Rattle.vault_walk.specs.Here.{IsFindingHere, IsInsideHere, IsLockedHere, IsNoItemHere, IsUnnamedHere}
 use Rattle.vault_walk.specs.Names.{is_fixed_by, is_full_by, unnamed_by}
-use Rattle.vault_walk.specs.Report.{IsBelow, IsEntryIn, IsMainFound, HaveOwnNames, IsMainOf, found_by, is_main}
+use Rattle.vault_walk.specs.Report.{IsBelow, IsEntryIn, IsMainFound, IsMainOf, found_by, is_main}
 use Rattle.vault_walk.specs.declared.found.Found as out
-use Rattle.vault_walk.specs.declared.report.Report.{Report}
 use Rattle.vault_walk.proofs.EntryReports.{by_back, by_on, none_apart}
 use Rattle.vault_walk.proofs.Finds.{FindsRight, is_of_no_name, unnamed_here}
 use Rattle.vault_walk.proofs.Flats.{none_within}
@@ -109,28 +108,27 @@ module _ (f : Format) (right : FindsRight f) (v : View) (dir : Directory) (entry
       finding : Finding
       finding = f.unnamed entry (v (child dir.folder entry))
 
-  unnamed_main : v (child dir.folder entry) ≢ NoEntry → (report : Report) → report.members.items ≡ [] → ((x : out.Found) → Contains report.found.items x ↔ IsStray f v dir entry x) → IsMainOf f v dir entry report
-  unnamed_main there report members found = record {
-    sound = λ member among. absurd (none_within member (subst (λ ms. Contains ms member) members among));
+  unnamed_main : v (child dir.folder entry) ≢ NoEntry → (found : List out.Found) → ((x : out.Found) → Contains found x ↔ IsStray f v dir entry x) → IsMainOf f v dir entry (record { members = []; found = found })
+  unnamed_main there found are = record {
+    sound = λ member among. absurd (none_within member among);
     complete = λ name node stands same. absurd (never_named name (item_named f v dir name node stands) same);
-    apart = subst (λ ms. HaveOwnNames ms) (sym members) none_apart;
-    found = λ x. (λ among. stray_back there x ((found x).0 among), λ m. (found x).1 (stray_by m.finding x m.number m.main m.here m.below));
+    apart = none_apart;
+    found = λ x. (λ among. stray_back there x ((are x).0 among), λ m. (are x).1 (stray_by m.finding x m.number m.main m.here m.below));
   }
 
   -- it belongs there
-  pub main_belongs : v (child dir.folder entry) ≢ NoEntry → (report : Report) → Belongs f v dir entry → report.members.items ≡ [] → report.found.items ≡ [] → IsMainOf f v dir entry report
-  main_belongs there report belongs members found =
-      unnamed_main there report members (λ x. (λ among. absurd (none_within x (subst (λ xs. Contains xs x) found among)), λ s. absurd (s.stray belongs)))
+  pub main_belongs : v (child dir.folder entry) ≢ NoEntry → Belongs f v dir entry → IsMainOf f v dir entry (record { members = []; found = [] })
+  main_belongs there belongs = unnamed_main there [] (λ x. (λ among. absurd (none_within x among), λ s. absurd (s.stray belongs)))
 
   -- and here it doesn't
-  pub main_stray : v (child dir.folder entry) ≢ NoEntry → (report : Report) (at : Path) (finding : Finding) → at ≡ child dir.folder entry → ¬ Belongs f v dir entry → report.members.items ≡ []
-      → finding ≡ f.unnamed entry (v (child dir.folder entry)) → report.found.items ≡ found_by at (Some finding) → IsMainOf f v dir entry report
-  main_stray there report at finding place stray members is_finding found =
-      unnamed_main there report members (λ x. (
+  pub main_stray : v (child dir.folder entry) ≢ NoEntry → (at : Path) (finding : Finding) → at ≡ child dir.folder entry → ¬ Belongs f v dir entry → finding ≡ f.unnamed entry (v (child dir.folder entry))
+      → IsMainOf f v dir entry (record { members = []; found = found_by at (Some finding) })
+  main_stray there at finding place stray is_finding =
+      unnamed_main there (found_by at (Some finding)) (λ x. (
         λ among.
-            let one = by_on at finding x (subst (λ xs. Contains xs x) found among) in
+            let one = by_on at finding x among in
             record { stray = stray; place = one.0 ∙ place; number = one.1 ∙ ap number_of is_finding },
-        λ s. subst (λ xs. Contains xs x) (sym found) (by_back at finding x (s.place ∙ sym place) (s.number ∙ ap number_of (sym is_finding))),
+        λ s. by_back at finding x (s.place ∙ sym place) (s.number ∙ ap number_of (sym is_finding)),
       ))
 
 pub is_fixed_is : (vault : Vault) (folder : Path) (name : Part) → is_fixed_by (kind_of vault) folder name ≡ (format_of vault).is_fixed folder name

@@ -1,4 +1,4 @@
--- What a report of one directory tells: its items, where they lead, and what is found in it; and the same of one entry of its folder.
+-- What a report of one directory tells: its items, where they lead, and what is found in it; and what one entry of its folder adds.
 use Rattle.std.specs.Prelude.{◌≡◌, ◌≢◌, ◌↔◌, ◌++◌, ℕ, Bool, true, false, List, [], ◌∷◌, Option, Some, None, is_some, Result, Ok, Err, IsTrue, AllPairs, Contains}
 use Rattle.std.specs.Option.{option_map}
 use Rattle.folder_spec.specs.Listing as folder
@@ -119,13 +119,25 @@ pub record IsEntryIn (v : View) (dir : Directory) (entry : folder.Item) : Type 0
   pub there : entry.kind ≢ Missing
   pub kind : kind_found (v (child dir.folder entry.name)) ≡ entry.kind
 
+-- what an entry adds to a report
+pub record Addition : Type 0 where
+  pub members : List Member
+  pub found : List Found
+
+-- this is added to a report
+pub record HasAdded (IsRight : Addition → Type 0) (before after : Report) : Type 0 where
+  pub more : Addition
+  pub right : IsRight more
+  pub members : after.members.items ≡ before.members.items ++ more.members
+  pub found : after.found.items ≡ before.found.items ++ more.found
+
 -- the item that stands at an entry, if one does, and what is found there and below it
-pub record IsReportOf (f : Format) (v : View) (dir : Directory) (entry : Part) (report : Report) : Type 0 where
-  pub sound : (member : Member) → Contains report.members.items member → IsMember f v dir member × ((f.stored dir.key member.name).name ≡ entry)
+pub record IsReportOf (f : Format) (v : View) (dir : Directory) (entry : Part) (more : Addition) : Type 0 where
+  pub sound : (member : Member) → Contains more.members member → IsMember f v dir member × ((f.stored dir.key member.name).name ≡ entry)
   pub complete : (name : List ℕ) (node : NodeKind) → node_of (standing_in f v dir name) ≡ Some node → (f.stored dir.key name).name ≡ entry
-      → (member : Member) × Contains report.members.items member × (member.name ≡ name)
-  pub apart : HaveOwnNames report.members.items
-  pub found : (x : Found) → Contains report.found.items x ↔ (IsFoundHere f v dir x × IsBelow (child dir.folder entry) x.at)
+      → (member : Member) × Contains more.members member × (member.name ≡ name)
+  pub apart : HaveOwnNames more.members
+  pub found : (x : Found) → Contains more.found x ↔ (IsFoundHere f v dir x × IsBelow (child dir.folder entry) x.at)
 
 -- whether a finding is of an entry itself: those of long-name files are of their entries too, and damaged contents aren't looked for
 abbrev pub is_main : Finding → Bool
@@ -152,13 +164,13 @@ pub record IsMainFound (f : Format) (v : View) (dir : Directory) (entry : Part) 
   pub here : IsFindingHere f v dir finding x.at
   pub below : IsBelow (child dir.folder entry) x.at
 
--- the report of an entry before it is looked at as a long-name file
-pub record IsMainOf (f : Format) (v : View) (dir : Directory) (entry : Part) (report : Report) : Type 0 where
-  pub sound : (member : Member) → Contains report.members.items member → IsMember f v dir member × ((f.stored dir.key member.name).name ≡ entry)
+-- what an entry adds, but for what is found of it as a long-name file
+pub record IsMainOf (f : Format) (v : View) (dir : Directory) (entry : Part) (more : Addition) : Type 0 where
+  pub sound : (member : Member) → Contains more.members member → IsMember f v dir member × ((f.stored dir.key member.name).name ≡ entry)
   pub complete : (name : List ℕ) (node : NodeKind) → node_of (standing_in f v dir name) ≡ Some node → (f.stored dir.key name).name ≡ entry
-      → (member : Member) × Contains report.members.items member × (member.name ≡ name)
-  pub apart : HaveOwnNames report.members.items
-  pub found : (x : Found) → Contains report.found.items x ↔ IsMainFound f v dir entry x
+      → (member : Member) × Contains more.members member × (member.name ≡ name)
+  pub apart : HaveOwnNames more.members
+  pub found : (x : Found) → Contains more.found x ↔ IsMainFound f v dir entry x
 
 -- the entry is that of this name alone
 pub record IsNamed (f : Format) (v : View) (dir : Directory) (entry : Part) (named : NameAt) : Type 0 where
@@ -191,13 +203,6 @@ leaf_found at entry.ContentFile inside = inside
 leaf_found at entry.Directory inside = []
 leaf_found at entry.Nothing inside = []
 leaf_found at (entry.NoItem finding) inside = found_by at (Some finding)
-
--- the report of a directory item, with what is found in its own folder
-pub record IsDirectoryReport (f : Format) (v : View) (at : Path) (name : List ℕ) (inside : List Found) (report : Report) : Type 0 where
-  pub lead : Lead
-  pub leads : IsLeadOf f v at lead
-  pub members : report.members.items ≡ (record { name = name; at = at; what = what.Dir lead }) ∷ []
-  pub found : report.found.items ≡ inside ++ found_by at (lack_by lead)
 
 -- The items of these entries of a directory, and what is found at them or below. Where the entries have names of their own, the items
 -- have too.

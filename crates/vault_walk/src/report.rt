@@ -12,7 +12,7 @@ ghost use Rattle.vault_spec.specs.Format as spec;
 ghost use Rattle.vault_spec.specs.Format.{is_file};
 ghost use Rattle.vault_spec.specs.Vault.{format_of};
 ghost use Rattle.vault_walk.specs.Names.{is_fixed_by, is_full_by};
-ghost use Rattle.vault_walk.specs.Report.{found_by, idle_by, lack_by, leaf_found, leaf_members, FitMembers, HasReported, IsLeadOf, IsMainOf, IsNamed, IsReport, IsReportOf, IsSideOf, FitsLead, IsEntryIn};
+ghost use Rattle.vault_walk.specs.Report.{found_by, idle_by, lack_by, leaf_found, leaf_members, FitMembers, HasAdded, HasReported, IsLeadOf, IsMainOf, IsNamed, IsReport, IsReportOf, IsSideOf, FitsLead, IsEntryIn};
 ghost use Rattle.vault_walk.specs.declared.report.What.TheVariants as what;
 
 use crate::entries::entries_at;
@@ -53,7 +53,7 @@ pub(crate) struct Member {
     pub(crate) what: What,
 }
 
-/// What one directory holds, or one entry of its folder.
+/// What one directory holds.
 #[derive(Drop)]
 pub(crate) struct Report {
     pub(crate) members: Vec<Member>,
@@ -93,78 +93,59 @@ fn reports_of<F: Folder>(
     ensures fits { IfOk result (λ report. FitMembers vault.now.vault report.members.items) }
     ensures counts { CountsAbove (F.faults folder.old) (F.faults folder.new) result }
 {
-    let mut report = nothing(alloc);
+    let mut report = Report {
+        members: Vec::new(alloc),
+        found: Vec::new(alloc),
+    };
     for entry in entries {
-        let more = entry_report(alloc, folder, vault, dir, entry)?;
-        add(&mut report, more)?;
+        add_entry(alloc, folder, vault, dir, entry, &mut report)?;
     }
     Ok(report)
 }
 
-fn add(report: &mut Report, more: Report) -> Result<(), AllocError>
-    ensures members { OnOk result (report.new.members.items ≡ report.old.members.items ++ more.members.items) }
-    ensures found { OnOk result (report.new.found.items ≡ report.old.found.items ++ more.found.items) }
-{
-    let Report {
-        mut members,
-        mut found,
-    } = more;
-    report.members.append(&mut members)?;
-    report.found.append(&mut found)
-}
-
-fn nothing(alloc: Global) -> Report
-    ensures members { result.members.items ≡ [] }
-    ensures found { result.found.items ≡ [] }
-{
-    Report {
-        members: Vec::new(alloc),
-        found: Vec::new(alloc),
-    }
-}
-
-// What one entry of a directory's folder is.
-fn entry_report<F: Folder>(
+// Adds what one entry of a directory's folder is.
+fn add_entry<F: Folder>(
     alloc: Global,
     folder: &mut F,
     vault: &Vault,
     dir: &Directory,
     entry: &Entry,
-) -> Result<Report, FolderFault>
+    report: &mut Report,
+) -> Result<(), FolderFault>
     requires fits { FitsKey vault.now.vault dir.now.key }
     requires listed { IfSeen (F.told folder.old) (λ v. IsEntryIn (under vault.now.root v) dir.now entry.now) }
     ensures told { F.told folder.new ≡ F.told folder.old }
-    ensures report { IfOk result (λ report. IfSeen (F.told folder.old) (λ v. IsReportOf (format_of vault.now.vault) (under vault.now.root v) dir.now entry.now.name report)) }
-    ensures fits { IfOk result (λ report. FitMembers vault.now.vault report.members.items) }
+    ensures report { OnOk result (IfSeen (F.told folder.old) (λ v. HasAdded (IsReportOf (format_of vault.now.vault) (under vault.now.root v) dir.now entry.now.name) report.old report.new)) }
+    ensures fits { OnOk result (FitMembers vault.now.vault report.old.members.items → FitMembers vault.now.vault report.new.members.items) }
     ensures counts { CountsAbove (F.faults folder.old) (F.faults folder.new) result }
 {
     let at = dir.folder.child(entry.name.as_str())?;
-    let mut report = main_report(alloc, folder, vault, dir, entry, &at)?;
     let side = side_of(alloc, folder, vault, dir, entry)?;
     add_found(&mut report.found, &at, side)?;
-    Ok(report)
+    add_main(alloc, folder, vault, dir, entry, at, report)
 }
 
-// What one entry at a path is, before it is looked at as a long-name file.
-fn main_report<F: Folder>(
+// Adds what one entry at a path is beside being a long-name file.
+fn add_main<F: Folder>(
     alloc: Global,
     folder: &mut F,
     vault: &Vault,
     dir: &Directory,
     entry: &Entry,
-    at: &FPath,
-) -> Result<Report, FolderFault>
+    at: FPath,
+    report: &mut Report,
+) -> Result<(), FolderFault>
     requires fits { FitsKey vault.now.vault dir.now.key }
-    requires place { at.now ≡ child dir.now.folder entry.now.name }
+    requires place { at ≡ child dir.now.folder entry.now.name }
     requires listed { IfSeen (F.told folder.old) (λ v. IsEntryIn (under vault.now.root v) dir.now entry.now) }
     ensures told { F.told folder.new ≡ F.told folder.old }
-    ensures report { IfOk result (λ report. IfSeen (F.told folder.old) (λ v. IsMainOf (format_of vault.now.vault) (under vault.now.root v) dir.now entry.now.name report)) }
-    ensures fits { IfOk result (λ report. FitMembers vault.now.vault report.members.items) }
+    ensures report { OnOk result (IfSeen (F.told folder.old) (λ v. HasAdded (IsMainOf (format_of vault.now.vault) (under vault.now.root v) dir.now entry.now.name) report.old report.new)) }
+    ensures fits { OnOk result (FitMembers vault.now.vault report.old.members.items → FitMembers vault.now.vault report.new.members.items) }
     ensures counts { CountsAbove (F.faults folder.old) (F.faults folder.new) result }
 {
     match name_at(alloc, folder, vault, dir, entry.name.as_str())? {
-        Some(named) => named_report(alloc, folder, vault, at, entry.kind, named),
-        None => Ok(unnamed_report(alloc, vault, dir, entry, at)?),
+        Some(named) => add_named(alloc, folder, vault, at, entry.kind, named, report),
+        None => Ok(add_unnamed(vault, dir, entry, &at, report)?),
     }
 }
 
@@ -185,94 +166,87 @@ pub(crate) fn add_found(
     Ok(())
 }
 
-fn one_found(alloc: Global, at: &FPath, finding: Finding) -> Result<Report, AllocError>
-    ensures members { IfOk result (λ report. report.members.items ≡ []) }
-    ensures found { IfOk result (λ report. report.found.items ≡ found_by at.now (Some finding)) }
+// Adds an item, and what is found in its own folder.
+fn add_member(member: Member, mut found: Vec<Found>, report: &mut Report) -> Result<(), AllocError>
+    ensures members { OnOk result (report.new.members.items ≡ report.old.members.items ++ member ∷ []) }
+    ensures found { OnOk result (report.new.found.items ≡ report.old.found.items ++ found.items) }
 {
-    let mut report = nothing(alloc);
-    add_found(&mut report.found, at, Some(finding))?;
-    Ok(report)
+    report.members.push(member)?;
+    report.found.append(&mut found)
 }
 
-fn one_member(
-    alloc: Global,
-    name: Name,
-    at: FPath,
-    what: What,
-    found: Vec<Found>,
-) -> Result<Report, AllocError>
-    ensures members { IfOk result (λ report. report.members.items ≡ (record { name = name; at = at; what = what }) ∷ []) }
-    ensures found { IfOk result (λ report. report.found.items ≡ found.items) }
+// Adds a file, and what is found in its own folder.
+fn add_file(name: Name, at: FPath, found: Vec<Found>, report: &mut Report) -> Result<(), AllocError>
+    ensures members { OnOk result (report.new.members.items ≡ report.old.members.items ++ (record { name = name; at = at; what = what.File }) ∷ []) }
+    ensures found { OnOk result (report.new.found.items ≡ report.old.found.items ++ found.items) }
 {
-    let mut members = Vec::new(alloc);
-    members.push(Member { name, at, what })?;
-    Ok(Report { members, found })
+    let what = What::File;
+    add_member(Member { name, at, what }, found, report)
 }
 
-// What the entry of a name is, by the kind of what stands there.
-fn named_report<F: Folder>(
+// Adds what the entry of a name is, by the kind of what stands there.
+fn add_named<F: Folder>(
     alloc: Global,
     folder: &mut F,
     vault: &Vault,
-    at: &FPath,
+    at: FPath,
     kind: Kind,
     named: NameAt,
-) -> Result<Report, FolderFault>
-    requires { IfSeen (F.told folder.old) (λ v. kind ≡ kind_found (under vault.now.root v at.now)) }
+    report: &mut Report,
+) -> Result<(), FolderFault>
+    requires { IfSeen (F.told folder.old) (λ v. kind ≡ kind_found (under vault.now.root v at)) }
     ensures told { F.told folder.new ≡ F.told folder.old }
-    ensures report { IfOk result (λ report. IfSeen (F.told folder.old) (λ v. (dir : spec.Directory) (entry : Item) → at.now ≡ child dir.folder entry.name
+    ensures report { OnOk result (IfSeen (F.told folder.old) (λ v. (dir : spec.Directory) (entry : Item) → at ≡ child dir.folder entry.name
         → IsEntryIn (under vault.now.root v) dir entry → IsNamed (format_of vault.now.vault) (under vault.now.root v) dir entry.name named
-        → IsMainOf (format_of vault.now.vault) (under vault.now.root v) dir entry.name report)) }
-    ensures fits { IfOk result (λ report. FitMembers vault.now.vault report.members.items) }
+        → HasAdded (IsMainOf (format_of vault.now.vault) (under vault.now.root v) dir entry.name) report.old report.new)) }
+    ensures fits { OnOk result (FitMembers vault.now.vault report.old.members.items → FitMembers vault.now.vault report.new.members.items) }
     ensures counts { CountsAbove (F.faults folder.old) (F.faults folder.new) result }
 {
     let NameAt { name, long } = named;
-    let item = item_of_kind(folder, vault, at, kind, long)?;
-    let found = found_inside(alloc, folder, vault, at, kind, long, item)?;
+    let item = item_of_kind(folder, vault, &at, kind, long)?;
+    let found = found_inside(alloc, folder, vault, &at, kind, long, item)?;
     match item {
         EntryItem::Directory => {
-            let lead = lead_at(alloc, folder, vault, at)?;
-            Ok(directory_report(alloc, at, name, lead, found)?)
+            let lead = lead_at(alloc, folder, vault, &at)?;
+            Ok(add_directory(at, name, lead, found, report)?)
         }
-        _ => Ok(leaf_report(alloc, at, name, item, found)?),
+        _ => Ok(add_leaf(at, name, item, found, report)?),
     }
 }
 
-// What the item of a name is that is no directory, with what is found in its own folder.
-fn leaf_report(
-    alloc: Global,
-    at: &FPath,
+// Adds the item of a name that is no directory, with what is found in its own folder.
+fn add_leaf(
+    at: FPath,
     name: Name,
     item: EntryItem,
     found: Vec<Found>,
-) -> Result<Report, AllocError>
-    ensures members { IfOk result (λ report. report.members.items ≡ leaf_members at.now name item) }
-    ensures found { IfOk result (λ report. report.found.items ≡ leaf_found at.now item found.items) }
+    report: &mut Report,
+) -> Result<(), AllocError>
+    ensures members { OnOk result (report.new.members.items ≡ report.old.members.items ++ leaf_members at name item) }
+    ensures found { OnOk result (report.new.found.items ≡ report.old.found.items ++ leaf_found at item found.items) }
 {
     match item {
-        EntryItem::EntryFile => one_member(alloc, name, at.copy()?, What::File, found),
-        EntryItem::ContentFile => {
-            let content = at.child(CONTENT_FILE)?;
-            one_member(alloc, name, content, What::File, found)
-        }
-        EntryItem::NoItem(finding) => one_found(alloc, at, finding),
-        EntryItem::Nothing | EntryItem::Directory => Ok(nothing(alloc)),
+        EntryItem::EntryFile => add_file(name, at, found, report),
+        EntryItem::ContentFile => add_file(name, at.child(CONTENT_FILE)?, found, report),
+        EntryItem::NoItem(finding) => add_found(&mut report.found, &at, Some(finding)),
+        EntryItem::Nothing | EntryItem::Directory => Ok(()),
     }
 }
 
-// What the directory item of a name is, by where it leads, with what is found in its own folder.
-fn directory_report(
-    alloc: Global,
-    at: &FPath,
+// Adds the directory item of a name, by where it leads, with what is found in its own folder.
+fn add_directory(
+    at: FPath,
     name: Name,
     lead: Lead,
     mut found: Vec<Found>,
-) -> Result<Report, AllocError>
-    ensures members { IfOk result (λ report. report.members.items ≡ (record { name = name; at = at.now; what = what.Dir lead }) ∷ []) }
-    ensures found { IfOk result (λ report. report.found.items ≡ found.items ++ found_by at.now (lack_by lead)) }
+    report: &mut Report,
+) -> Result<(), AllocError>
+    ensures members { OnOk result (report.new.members.items ≡ report.old.members.items ++ (record { name = name; at = at; what = what.Dir lead }) ∷ []) }
+    ensures found { OnOk result (report.new.found.items ≡ report.old.found.items ++ (found.items ++ found_by at (lack_by lead))) }
 {
-    add_found(&mut found, at, lack_of(&lead))?;
-    one_member(alloc, name, at.copy()?, What::Dir(lead), found)
+    add_found(&mut found, &at, lack_of(&lead))?;
+    let what = What::Dir(lead);
+    add_member(Member { name, at, what }, found, report)
 }
 
 // The finding of a directory item without its key or its folder.
@@ -310,25 +284,26 @@ fn lead_at<F: Folder>(
     }
 }
 
-// What an entry at a path is that is of no name: it belongs there as a file of its name, or is found.
-fn unnamed_report(
-    alloc: Global,
+// Adds what an entry at a path is that is of no name: it belongs there as a file of its name, or is found.
+fn add_unnamed(
     vault: &Vault,
     dir: &Directory,
     entry: &Entry,
     at: &FPath,
-) -> Result<Report, AllocError>
-    ensures report { IfOk result (λ report. (w : View) → at.now ≡ child dir.now.folder entry.now.name → IsEntryIn w dir.now entry.now
+    report: &mut Report,
+) -> Result<(), AllocError>
+    ensures report { OnOk result ((w : View) → at.now ≡ child dir.now.folder entry.now.name → IsEntryIn w dir.now entry.now
         → ((name : List ℕ) → ¬ IsEntryOf (format_of vault.now.vault) w dir.now entry.now.name name)
-        → IsMainOf (format_of vault.now.vault) w dir.now entry.now.name report) }
-    ensures members { IfOk result (λ report. report.members.items ≡ []) }
+        → HasAdded (IsMainOf (format_of vault.now.vault) w dir.now entry.now.name) report.old report.new) }
+    ensures members { report.new.members.items ≡ report.old.members.items }
 {
     let kind = vault.kind();
     let name = entry.name.as_str();
     if belongs(kind, &dir.folder, name, entry.kind) {
-        return Ok(nothing(alloc));
+        return Ok(());
     }
-    Ok(one_found(alloc, at, unnamed(kind, name, entry.kind))?)
+    let finding = unnamed(kind, name, entry.kind);
+    add_found(&mut report.found, at, Some(finding))
 }
 
 // Whether it is a file of a name that belongs to a folder of entries, or of a long-name file's.

@@ -7,34 +7,75 @@ use std::collections::BTreeMap;
 use std::mem;
 use std::rc::RcStr;
 
-// What stands at each name in a directory, `None` where that isn't known any more. At all other names nothing stands.
+// A name that was listed, by its place among those of its directory, and what stood at it.
+#[derive(Clone, Copy)]
+struct Name {
+    start: usize,
+    end: usize,
+    kind: Kind,
+}
+
+// What stands in a directory: the names that were listed, one behind the other in byte order, and what was learned of a name since, `None`
+// where what stands there isn't known any more. At all other names nothing stands.
 #[derive(Drop)]
 struct Listed {
     dir: FPath,
-    kinds: BTreeMap<String, Option<Kind>>,
+    text: String,
+    names: Vec<Name>,
+    learned: BTreeMap<String, Option<Kind>>,
 }
 
 impl Listed {
     fn of(alloc: Global, dir: &FPath, entries: &[Entry]) -> Result<Listed, AllocError> {
         let mut listed = Listed {
             dir: dir.copy()?,
-            kinds: BTreeMap::new(alloc),
+            text: String::new(alloc),
+            names: Vec::with_capacity(alloc, entries.len())?,
+            learned: BTreeMap::new(alloc),
         };
         for entry in entries {
-            listed.put(alloc, entry.name.as_str(), Some(entry.kind))?;
+            listed.add(entry)?;
         }
         Ok(listed)
     }
 
+    fn add(&mut self, entry: &Entry) -> Result<(), AllocError> {
+        let start = self.text.len();
+        self.text.push_str(entry.name.as_str())?;
+        self.names.push(Name {
+            start,
+            end: self.text.len(),
+            kind: entry.kind,
+        })?;
+        Ok(())
+    }
+
     fn kind_of(&self, name: &str) -> Option<Kind> {
-        match self.kinds.get(name) {
+        match self.learned.get(name) {
             Some(kind) => *kind,
-            None => Some(Kind::Missing),
+            None => Some(self.kind_listed(name)),
         }
     }
 
+    fn kind_listed(&self, name: &str) -> Kind {
+        let found = self
+            .names
+            .binary_search_by(|listed| self.text_of(listed).cmp(name));
+        match found {
+            Ok(index) => self.names[index].kind,
+            Err(_) => Kind::Missing,
+        }
+    }
+
+    fn text_of(&self, name: &Name) -> &str {
+        self.text
+            .as_str()
+            .get(name.start..name.end)
+            .unwrap_or_default()
+    }
+
     fn put(&mut self, alloc: Global, name: &str, kind: Option<Kind>) -> Result<(), AllocError> {
-        self.kinds.insert(String::from_str(alloc, name)?, kind)?;
+        self.learned.insert(String::from_str(alloc, name)?, kind)?;
         Ok(())
     }
 }

@@ -6,13 +6,16 @@ use std::collections::BTreeSet;
 use std::mem;
 use std::ops::Bound;
 
-// Those in which this process has changed nothing since, and the two of them that were asked for last, which take no search.
+// Those in which this process has changed nothing since, and the two of them that were asked for last, which take no search. Nor do the two
+// directories in which this process changed something last, as long as none at or below them is kept.
 #[derive(Drop)]
 pub struct Plain {
     alloc: Global,
     dirs: BTreeSet<FPath, Global>,
     last: Option<FPath>,
     other: Option<FPath>,
+    bare: Option<FPath>,
+    other_bare: Option<FPath>,
 }
 
 impl Plain {
@@ -22,6 +25,8 @@ impl Plain {
             dirs: BTreeSet::new(alloc),
             last: None,
             other: None,
+            bare: None,
+            other_bare: None,
         }
     }
 
@@ -37,6 +42,8 @@ impl Plain {
     }
 
     fn add(&mut self, dir: &FPath) -> Result<(), AllocError> {
+        self.bare = None;
+        self.other_bare = None;
         self.dirs.insert(dir.copy()?)?;
         Ok(())
     }
@@ -66,7 +73,7 @@ impl Plain {
 
     // Lets go of the directory above a path at which something changes, and of those at and below it; of all without memory for that.
     pub fn forget(&mut self, at: &FPath) {
-        if self.dirs.is_empty() {
+        if self.dirs.is_empty() || is_above(&self.bare, at) || is_above(&self.other_bare, at) {
             return;
         }
         if is_touched(&self.last, at) {
@@ -77,18 +84,35 @@ impl Plain {
         }
         if self.remove(at).is_err() {
             self.dirs.clear();
+            self.last = None;
+            self.other = None;
         }
     }
 
     fn remove(&mut self, at: &FPath) -> Result<(), AllocError> {
+        let above = at.parent()?;
         let below = self.found_below(at)?;
-        self.dirs.remove(&at.parent()?);
+        self.dirs.remove(&above);
         for dir in below.as_slice() {
             self.dirs.remove(dir);
+        }
+        if !self.has_below(&above) {
+            mem::swap(&mut self.bare, &mut self.other_bare);
+            self.bare = Some(above);
         }
         Ok(())
     }
 
+    // Whether one is kept at or below a path.
+    fn has_below(&self, at: &FPath) -> bool {
+        let mut from_it = self.dirs.range((Bound::Included(at), Bound::Unbounded));
+        match from_it.next() {
+            Some(dir) => dir.starts_with(at),
+            None => false,
+        }
+    }
+
+    // Those at and below a path.
     fn found_below(&self, at: &FPath) -> Result<Vec<FPath>, AllocError> {
         let mut below = Vec::new(self.alloc);
         for dir in self.dirs.range((Bound::Included(at), Bound::Unbounded)) {

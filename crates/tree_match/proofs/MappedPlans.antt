@@ -2,12 +2,14 @@
 use Rattle.std.proofs.Common.{◌≡◌, ◌⊎◌, inl, inr, ℕ, suc, ◌+◌, ◌<◌, ◌≤◌, Bool, true, false, List, [], ◌∷◌, ◌++◌, length, map, take, drop, get_or, Option, Some, None, Err, refl, sym, ap, ◌∙◌, subst, arith, take-append-drop, drop-cons, Contains, AllPairs, if◌then◌else◌}
 use Rattle.std.specs.Cmp.Lexicographic.{lists_total, nat_list_cmp_total}
 use Rattle.std.specs.BTreeMap.{BTreeMap, get, is_at}
+use Rattle.std.specs.List.{AllAdjacentBelow}
 use Rattle.std.specs.List.Sorted.{IsPermutation}
 use Rattle.std.specs.Map.{lookup}
 use Rattle.std.specs.Ordering.{is_eq}
 use Rattle.std.proofs.lemmas.Cmp.{tied_itself}
 use Rattle.std.proofs.lemmas.List.{get_or-map, get_or-take, get_or_default, length-map, length-take-le, take-map}
 use Rattle.std.proofs.lemmas.List.Sorted.{Contains-permutation, IsPermutation-sym}
+use Rattle.std.proofs.lemmas.Map.Keys.{Less-from_sorted, sorted_from_all_adjacent}
 use Rattle.std.proofs.Math.Nat.{eq-or-lt_of_le}
 use Rattle.std.specs.FinMap.{slice_cmp-IsAntisymmetric, nat_cmp-IsAntisymmetric}
 use Rattle.std.specs.declared.cmp.Ordering.{Ordering}
@@ -60,6 +62,18 @@ one_path p q h = by (path_cmp p q) refl h
 
 own_path : (p : plain.Path) → is_eq (path_cmp p p) ≡ true
 own_path p = ap is_eq (tied_itself (lists_total nat_list_cmp_total) p)
+
+-- where each path comes before the next one, no two are one
+pub all_ascending : (items : List Planned) (n : ℕ) → length items ≤ n → AllAdjacentBelow (λ (x y : Planned). path_cmp x.path y.path ≡ Less) items n → AreAlone items
+all_ascending items n all ascending i j d before few same =
+    let path = λ (x : Planned). x.path in
+    let size : length (map path items) ≡ length items = length-map items path in
+    let sorted = sorted_from_all_adjacent (lists_total nat_list_cmp_total) (map path items) [] (λ k less. rw (get_or-map path items k d [] (omega (arith, less, size)), get_or-map path items (k + 1) d [] (omega (arith, less, size))) (ascending k d (omega (arith, less, size, all)))) in
+    let less = Less-from_sorted path_cmp (map path items) i j [] sorted before (omega (arith, few, size)) in
+    let here : path_cmp (get_or items i d).path (get_or items j d).path ≡ Less = rw (get_or-map path items i d [] (omega (arith, before, few)), get_or-map path items j d [] few) at less in
+    let own = own_path (get_or items j d).path in
+    let no : true ≡ false = sym own ∙ ap (λ (p : plain.Path). is_eq (path_cmp p (get_or items j d).path)) (sym same) ∙ ap is_eq here in
+    cc no
 
 -- the places of the first items, each path at one
 pub record Places (items : List Planned) (n : ℕ) (at : plain.Path → Option ℕ) : Type 0 where

@@ -10,6 +10,7 @@ ghost use Rattle.tree_match.specs.Mapping.{AreAlone, AreFirstAlike, AreNamed, Ma
 use crate::answer::MapFault;
 use plain_tree::{NameMap, NameNewFault, PlainPath};
 use std::alloc::{AllocError, Global};
+use std::cmp::Ordering;
 use std::collections::BTreeMap;
 use vault_walk::surveying::sorted;
 use vault_walk::{Plan, PlanItem, PlanItems};
@@ -88,6 +89,9 @@ fn mapped_item(item: &PlanItem, names: NameMap) -> Result<PlanItem, MapFault>
 fn first_to_meet(alloc: Global, items: &[PlanItem]) -> Result<Option<(usize, usize)>, AllocError>
     ensures { IfOk result (λ found. MatchOption found (AreAlone items.now) (λ places. AreFirstAlike items.now places.0 places.1)) }
 {
+    if are_ascending(items) {
+        return Ok(None);
+    }
     let mut places = BTreeMap::new(alloc);
     for (place, item) in items.iter().enumerate() {
         if let Some(early) = put_place(&mut places, &item.path, place)? {
@@ -95,6 +99,20 @@ fn first_to_meet(alloc: Global, items: &[PlanItem]) -> Result<Option<(usize, usi
         }
     }
     Ok(None)
+}
+
+// Whether each path comes before the next one, as it does where no name changes: then no two are one.
+fn are_ascending(items: &[PlanItem]) -> bool
+    ensures { IsTrue result → AreAlone items.now }
+{
+    'pairs: for i in 1..items.len() {
+        let earlier = &items[i - 1];
+        let later = &items[i];
+        if earlier.path.cmp(&later.path) != Ordering::Less {
+            return false;
+        }
+    }
+    true
 }
 
 // Keeps the place at which a path stands, and gives the one at which it stood before, if it did.

@@ -155,6 +155,35 @@ counter_mode-from_rest image next sixteen start counter text bytes rest k at fro
           ∙ ap (slice_index (image (iterate next (i / 16) start))) place)
     ])
 
+-- a text in two parts, of which the first is of whole blocks
+pub counter_mode-append : (image next : List ℕ → List ℕ) → ((b : List ℕ) → length (image b) ≡ 16)
+    → (start front rest : List ℕ) (k : ℕ) → length front ≡ 16 * k
+    → counter_mode image next start front ++ counter_mode image next (iterate next k start) rest ≡ counter_mode image next start (front ++ rest)
+counter_mode-append image next sixteen start front rest k whole =
+    let first : List ℕ = counter_mode image next start front in
+    let second : List ℕ = counter_mode image next (iterate next k start) rest in
+    let long : length first ≡ length front = length-counter_mode image next sixteen start front in
+    let left : length second ≡ length rest = length-counter_mode image next sixteen (iterate next k start) rest in
+    counter_mode-from_places image next sixteen start (front ++ rest) (first ++ second)
+    (omega (arith, length-append first second, length-append front rest, long, left))
+    (λ i lt. elim (cases_lt i (16 * k)) [
+      | inl old ↦
+          let in_first : i < length first = omega arith in
+          let in_front : i < length front = omega arith in
+          get_or_append_left first second 0 i in_first ∙ slice_index-counter_mode image next sixteen start front i in_front
+          ∙ ap (λ x. bit_xor x (slice_index (image (iterate next (i / 16) start)) (i % 16))) (sym (get_or_append_left front rest 0 i in_front))
+      | inr here ↦
+          let j : ℕ = i - 16 * k in
+          let in_rest : j < length rest = omega (arith, length-append front rest) in
+          let block : k + j / 16 ≡ i / 16 = omega arith in
+          let place : j % 16 ≡ i % 16 = omega arith in
+          get_or-append_right first second (16 * k) i 0 (long ∙ whole) here
+          ∙ slice_index-counter_mode image next sixteen (iterate next k start) rest j in_rest
+          ∙ ap₂ bit_xor (sym (get_or-append_right front rest (16 * k) i 0 whole here))
+          (ap (λ b. slice_index (image b) (j % 16)) (iterate-more next k (j / 16) start ∙ ap (λ n. iterate next n start) block)
+          ∙ ap (slice_index (image (iterate next (i / 16) start))) place)
+    ])
+
 -- an image of n counter blocks, the first of sixteen blocks
 pub image_at : (image next : List ℕ → List ℕ) (start : List ℕ) (blocks images rest : List (List ℕ)) (n k : ℕ) → images ≡ map image (take n blocks)
     → k < n → n ≤ 16 → length blocks ≡ 16 → ((i : ℕ) → i < n → get_or blocks i [] ≡ iterate next i start)

@@ -1,6 +1,7 @@
 -- Counter mode (SP 800-38A, section 6.5 and appendix B.1; SP 800-38D, sections 6.2 and 6.5). A block is
 -- sixteen bytes, and a block cipher a function from blocks to blocks.
-use Rattle.std.specs.Prelude.{ℕ, zero, suc, ◌+◌, ◌-◌, ◌*◌, ◌/◌, ◌%◌, ◌^◌, List, [], ◌++◌, length, take, drop, fold}
+use Rattle.std.specs.Prelude.{◌≡◌, ℕ, zero, suc, ◌+◌, ◌-◌, ◌*◌, ◌/◌, ◌%◌, ◌^◌, ◌<◌, List, [], ◌++◌, length, take, drop, fold, get_or}
+use Rattle.std.specs.Fn.{iterate}
 use Rattle.std.specs.Int.{bytes_high_first}
 use Rattle.aes_lanes.specs.Bytes.{xor_bytes}
 
@@ -25,6 +26,10 @@ increment128 block = increment 16 block
 unfoldable pub key_stream : (List ℕ → List ℕ) → (List ℕ → List ℕ) → List ℕ → ℕ → List ℕ
 key_stream image next block zero = []
 key_stream image next block (suc n) = image block ++ key_stream image next (next block) n
+
+-- the first sixteen blocks of a key stream: the images of sixteen counter blocks, from a first one on
+abbrev pub AreFirstOfStream : (List ℕ → List ℕ) → (List ℕ → List ℕ) → List ℕ → List (List ℕ) → Type 0
+AreFirstOfStream image next start blocks = (k : ℕ) → k < 16 → get_or blocks k [] ≡ image (iterate next k start)
 
 -- a text xored with the key stream of as many blocks as it needs, of which the last may be cut
 unfoldable pub counter_mode : (List ℕ → List ℕ) → (List ℕ → List ℕ) → List ℕ → List ℕ → List ℕ

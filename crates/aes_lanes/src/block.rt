@@ -14,7 +14,11 @@ pub(crate) fn xor_at(bytes: &mut [u8], at: usize, block: &Block)
     ensures { IsXoredAt at block.now bytes.old bytes.new }
 {
     let rest = bytes.len().saturating_sub(at);
-    for i in 0..rest.min(16) {
+    if rest >= 16 {
+        xor_block(bytes, at, block);
+        return;
+    }
+    for i in 0..rest {
         bytes[at + i] ^= block[i];
     }
 }

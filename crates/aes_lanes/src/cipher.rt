@@ -2,7 +2,7 @@
 
 ghost use Rattle.std.specs.Prelude.{◌≡◌, ℕ, List, length, map};
 ghost use Rattle.aes_lanes.specs.BlockCipher.{AreInverse};
-ghost use Rattle.aes_lanes.specs.Counter.{ctr32};
+ghost use Rattle.aes_lanes.specs.Counter.{AreFirstOfStream, ctr32, increment32};
 
 use crate::block::Block;
 
@@ -25,6 +25,11 @@ pub trait Cipher {
     /// modulo 2^32 on the last four bytes.
     fn ctr32_xor(&self, start: &Block, bytes: &mut [u8])
         ensures { bytes.new ≡ ctr32 (image self.now) start.now bytes.old };
+
+    /// The first sixteen blocks of the key stream that starts with the image of `start`. Its counter blocks
+    /// count modulo 2^32 on the last four bytes.
+    fn ctr32_stream(&self, start: &Block) -> [Block; 16]
+        ensures { AreFirstOfStream (image self.now) increment32 start.now result };
 
     /// An image has sixteen bytes.
     ghost length_image: { (key : Self) (block : List ℕ) → length (image key block) ≡ 16 };

@@ -3,7 +3,7 @@
 ghost use Rattle.std.specs.Prelude.{◌≡◌, ℕ, ◌+◌, ◌*◌, ◌<◌, ◌≤◌, List, [], get_or, length};
 ghost use Rattle.std.specs.Fn.{iterate};
 ghost use Rattle.aes_lanes.specs.Cipher.{cipher};
-ghost use Rattle.aes_lanes.specs.Counter.{counter_mode, ctr128, ctr32, increment128};
+ghost use Rattle.aes_lanes.specs.Counter.{AreFirstOfStream, counter_mode, ctr128, ctr32, increment128, increment32};
 ghost use Rattle.aes_lanes.specs.PlaneList.{AreRoundKeys};
 ghost use Rattle.aes_lanes.specs.RoundKeys.{AreKeyBlocks};
 
@@ -35,8 +35,8 @@ fn next128(counter: &mut Block) -> [Block; 16]
 }
 
 // Adds to bytes as many blocks of a key stream as they need.
-fn xor_stream(stream: &[Block; 16], bytes: &mut [u8])
-    requires { length bytes.old ≤ 256 }
+fn xor_stream(stream: &[Block], bytes: &mut [u8])
+    requires { length bytes.old ≤ 16 * length stream.now }
     ensures { (image next : List ℕ → List ℕ) (start : List ℕ) → ((block : List ℕ) → length (image block) ≡ 16)
         → ((k : ℕ) → 16 * k < length bytes.old → get_or stream.now k [] ≡ image (iterate next k start))
         → bytes.new ≡ counter_mode image next start bytes.old }
@@ -122,6 +122,22 @@ pub fn ctr32_xor<C: Cipher>(key: &C, start: &Block, bytes: &mut [u8])
     ensures { bytes.new ≡ ctr32 (C.image key.now) start.now bytes.old }
 {
     key.ctr32_xor(start, bytes);
+}
+
+/// Xors the key stream that starts with the image of the block after `start` into the bytes, where `stream`
+/// is the first sixteen blocks of the one that starts with the image of `start`. Counter blocks count modulo
+/// 2^32 on the last four bytes.
+pub fn ctr32_xor_on<C: Cipher>(key: &C, start: &Block, stream: &[Block; 16], bytes: &mut [u8])
+    ensures { AreFirstOfStream (C.image key.now) increment32 start.now stream.now
+        → bytes.new ≡ ctr32 (C.image key.now) (increment32 start.now) bytes.old }
+{
+    if bytes.len() <= 240 {
+        xor_stream(&stream[1..], bytes);
+    } else {
+        let (front, rest) = bytes.split_at_mut(240);
+        xor_stream(&stream[1..], front);
+        key.ctr32_xor(&counted32(start, 16), rest);
+    }
 }
 
 /// Xors the key stream that starts with the image of `start` into the bytes. Its counter blocks

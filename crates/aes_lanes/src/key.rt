@@ -5,7 +5,7 @@ ghost use Rattle.std.specs.Prelude.{◌≡◌};
 use crate::block::Block;
 use crate::cipher::Cipher;
 use crate::counter::ctr32_under;
-use crate::plane_rounds::expand_planes;
+use crate::plane_rounds::{counter_images, expand_planes};
 use crate::planes::{Planes, no_planes};
 use crate::rounds::{decrypt_all, encrypt_all};
 use crate::schedule::{expand_blocks, expand_key};
@@ -78,6 +78,10 @@ impl Cipher for Key128 {
 
     fn ctr32_xor(&self, start: &Block, bytes: &mut [u8]) {
         ctr32_under(&self.blocks, &self.planes, 10, start, bytes);
+    }
+
+    fn ctr32_stream(&self, start: &Block) -> [Block; 16] {
+        counter_images(&self.planes, 10, start)
     }
 }
 
@@ -157,5 +161,9 @@ impl Cipher for Key256 {
 
     fn ctr32_xor(&self, start: &Block, bytes: &mut [u8]) {
         ctr32_under(&self.blocks, &self.planes, 14, start, bytes);
+    }
+
+    fn ctr32_stream(&self, start: &Block) -> [Block; 16] {
+        counter_images(&self.planes, 14, start)
     }
 }

@@ -21,6 +21,6 @@ mod tables;
 
 pub use block::{Block, same_bytes, xor_into};
 pub use cipher::Cipher;
-pub use counter::{ctr32_xor, ctr128_xor};
+pub use counter::{ctr32_xor, ctr32_xor_on, ctr128_xor};
 pub use key::{Key128, Key256};
 pub use tables::{inverse_sbox, sbox};

@@ -1,8 +1,10 @@
 -- The parts of GCM as the code computes them.
 use Rattle.std.proofs.Common.{◌≡◌, ◌≢◌, ℕ, ◌*◌, List, [], ◌∷◌, ◌++◌, length, bit_xor, eq-eqb, inl, inr, refl, sym, ap, ◌∙◌}
 use Rattle.std.proofs.lemmas.Bool.Decides.{eqb_tells}
+use Rattle.std.proofs.lemmas.List.{append-nil}
+use Rattle.aes_lanes.specs.Bytes.{xor_bytes}
 use Rattle.aes_lanes.specs.Cipher.{aes256}
-use Rattle.aes_lanes.specs.Counter.{ctr32, increment32}
+use Rattle.aes_lanes.specs.Counter.{counter_mode, ctr32, increment32, key_stream}
 use Rattle.aes_lanes.specs.Laws.Cipher.{length-aes}
 use Rattle.aes_lanes.specs.Laws.Counter.{counter_mode-twice, length-counter_mode}
 use Rattle.gcm_mode.specs.Field.{product}
@@ -28,6 +30,14 @@ unfolding hashed
 hashed-is image ad text h first hash subkey one two =
     rw (two, one, subkey) (sym (rw (ghash-last, ghash_from-append) refl))
 
+-- a tag as the code makes it: GHASH, and the image of the pre-counter block
+pub tag-is : (key iv ad text counter mask tag : List ℕ) → counter ≡ pre_counter (aes256 key) iv → mask ≡ aes256 key counter
+    → tag ≡ xor_bytes (block_bytes (hashed (aes256 key) ad text)) mask → tag ≡ tag_of (aes256 key) iv ad text
+unfolding tag_of block_bytes counter_mode key_stream
+tag-is key iv ad text counter mask tag first image is =
+    let hash : List ℕ = block_bytes (hashed (aes256 key) ad text) in
+    is ∙ ap (xor_bytes hash) (image ∙ ap (aes256 key) first ∙ sym (append-nil (aes256 key (pre_counter (aes256 key) iv))))
+
 -- a text that opens a sealed one shows the tag to be the sealed one's
 pub tag-opened : (image : List ℕ → List ℕ) (iv ad : List ℕ) (s : Sealed) (plain : List ℕ) → Opens image iv ad s plain → s.tag ≡ tag_of image iv ad s.text
 unfolding sealed
@@ -52,8 +62,8 @@ opened-is key iv ad text tag plain right stream =
     let back : encrypted (aes256 key) iv plain ≡ text = ap (encrypted (aes256 key) iv) stream ∙ encrypted-twice key iv text in
     rw back (ap (λ (t : List ℕ). record { text = text; tag = t }) right)
 
-pub sealed-is : (image : List ℕ → List ℕ) (iv ad plain text tag : List ℕ) → text ≡ ctr32 image (increment32 (pre_counter image iv)) plain → tag ≡ ctr32 image (pre_counter image iv) (block_bytes (hashed image ad text)) → sealed image iv ad plain ≡ record { text = text; tag = tag }
-unfolding sealed encrypted tag_of
+pub sealed-is : (image : List ℕ → List ℕ) (iv ad plain text tag : List ℕ) → text ≡ ctr32 image (increment32 (pre_counter image iv)) plain → tag ≡ tag_of image iv ad text → sealed image iv ad plain ≡ record { text = text; tag = tag }
+unfolding sealed encrypted
 sealed-is image iv ad plain text tag stream right = sym (rw (right, stream) refl)
 
 -- a text that opens a sealed one is the encrypted text, encrypted again

@@ -3,16 +3,16 @@
 //! Nothing here takes memory.
 #![tactic(auto)]
 
-ghost use Rattle.std.specs.Prelude.{◌≡◌, ℕ, ◌^◌, ◌<◌, ◌≤◌, ◌↔◌, List, bit_xor, length, IsOk, OnOk, OnErr};
-ghost use Rattle.aes_lanes.specs.Bytes.{IsBlock};
+ghost use Rattle.std.specs.Prelude.{◌≡◌, ℕ, ◌^◌, ◌<◌, ◌≤◌, ◌↔◌, List, [], bit_xor, get_or, length, IsOk, OnOk, OnErr};
+ghost use Rattle.aes_lanes.specs.Bytes.{IsBlock, xor_bytes};
 ghost use Rattle.aes_lanes.specs.Cipher.{aes256};
-ghost use Rattle.aes_lanes.specs.Counter.{ctr32, increment32};
+ghost use Rattle.aes_lanes.specs.Counter.{AreFirstOfStream, ctr32, increment32};
 ghost use Rattle.gcm_mode.specs.Field.{product as product_of};
 ghost use Rattle.gcm_mode.specs.Hash.{block_bytes, block_number, blocks_of};
 ghost use Rattle.gcm_mode.specs.Private.{ghash_from};
 ghost use Rattle.gcm_mode.specs.Gcm.{hash_subkey, hashed, pre_counter, tag_of, sealed, Opens, OpensToNothing};
 
-use aes_lanes::{Block, Cipher, Key256, ctr32_xor, same_bytes};
+use aes_lanes::{Block, Cipher, Key256, ctr32_xor, ctr32_xor_on, same_bytes, xor_into};
 use std::marker::Model;
 use std::simd::prelude::*;
 
@@ -33,6 +33,9 @@ use products::Powers;
 /// The tag isn't that of the text, its associated data and its initialization vector.
 #[derive(Clone, Copy, PartialEq, Eq)]
 pub struct BadTag;
+
+// A text of up to so many bytes takes less time block by block, beside the pre-counter block, than in a set of sixteen.
+const SHORT: usize = 32;
 
 /// GCM under one AES-256 key, with four kilobytes of tables for it. A clause sees the key's 32 bytes.
 #[derive(Drop)]
@@ -80,8 +83,9 @@ impl Gcm {
             ≡ record { text = text.new; tag = result } }
     {
         let counter = self.pre_counter(iv);
-        self.add_stream(&counter, text);
-        self.tag(&counter, ad, text)
+        let stream = self.stream(&counter, text.len());
+        self.add_stream(&counter, &stream, text);
+        self.tag(&stream[0], ad, text)
     }
 
     /// Decrypts `text` in place where `tag` is its tag, and else leaves it as it is (section 7.2).
@@ -105,10 +109,11 @@ impl Gcm {
         ensures unchanged { OnErr result (text.new ≡ text.old) }
     {
         let counter = self.pre_counter(iv);
-        if !same_bytes(&self.tag(&counter, ad, text), tag) {
+        let stream = self.stream(&counter, text.len());
+        if !same_bytes(&self.tag(&stream[0], ad, text), tag) {
             return Err(BadTag);
         }
-        self.add_stream(&counter, text);
+        self.add_stream(&counter, &stream, text);
         Ok(())
     }
 
@@ -122,23 +127,41 @@ impl Gcm {
         self.last_steps(u8x16::splat(0), iv, bit_length(iv))
     }
 
-    // Encrypts or decrypts a text whose pre-counter block is `counter`.
-    fn add_stream(&self, counter: &Block, text: &mut [u8])
-        ensures { text.new ≡ ctr32 (aes256 self.now) (increment32 counter.now) text.old }
+    // The first block of the key stream from the pre-counter block on, and the fifteen after it where a text of
+    // so many bytes is longer than `SHORT`.
+    fn stream(&self, counter: &Block, length: usize) -> [Block; 16]
+        ensures first { get_or result 0 [] ≡ aes256 self.now counter.now }
+        ensures others { 32 < length → AreFirstOfStream (aes256 self.now) increment32 counter.now result }
     {
-        ctr32_xor(&self.cipher, &next_counter(counter), text);
+        if length > SHORT {
+            return self.cipher.ctr32_stream(counter);
+        }
+        let mut blocks = [[0; 16]; 16];
+        blocks[0] = *counter;
+        self.cipher.encrypt_blocks(&mut blocks[..1]);
+        blocks
     }
 
-    // The tag of an encrypted text whose pre-counter block is `counter`.
-    fn tag(&self, counter: &Block, ad: &[u8], text: &[u8]) -> Block
+    // Encrypts or decrypts a text, given its pre-counter block and what `stream` gives for its length.
+    fn add_stream(&self, counter: &Block, stream: &[Block; 16], text: &mut [u8])
+        requires { 32 < length text.old → AreFirstOfStream (aes256 self.now) increment32 counter.now stream.now }
+        ensures { text.new ≡ ctr32 (aes256 self.now) (increment32 counter.now) text.old }
+    {
+        if text.len() > SHORT {
+            ctr32_xor_on(&self.cipher, counter, stream, text);
+        } else {
+            ctr32_xor(&self.cipher, &next_counter(counter), text);
+        }
+    }
+
+    // The tag of an encrypted text, given the image of its pre-counter block.
+    fn tag(&self, mask: &Block, ad: &[u8], text: &[u8]) -> Block
         requires ad_within { length ad.now ≤ 2 ^ 32 }
         requires text_within { length text.now ≤ 2 ^ 32 }
-        ensures { result
-            ≡ ctr32 (aes256 self.now) counter.now
-            (block_bytes (hashed (aes256 self.now) ad.now text.now)) }
+        ensures { result ≡ xor_bytes (block_bytes (hashed (aes256 self.now) ad.now text.now)) mask.now }
     {
         let mut tag = self.hash(ad, text);
-        ctr32_xor(&self.cipher, counter, &mut tag);
+        xor_into(&mut tag, mask);
         tag
     }
 

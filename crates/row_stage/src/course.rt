@@ -31,7 +31,7 @@ pub struct Course {
 fn push_word(alloc: Global, text: &mut String, word: &str) -> Result<(), AllocError> {
     if word.contains('*') {
         if let Some(bytes) = bytes_of(alloc, word)? {
-            return push_shown(text, bytes.as_slice(), MOST_SHOWN);
+            return push_shown(alloc, text, bytes.as_slice(), MOST_SHOWN);
         }
     }
     text.push_str(word)

@@ -10,5 +10,5 @@ mod words;
 pub use bytes::bytes_of;
 pub use said::Said;
 pub use showing::{push_shown, push_text, sum_of};
-pub use tally::Tally;
+pub use tally::{Tally, must_be_wrong};
 pub use words::{cut, number};

@@ -112,6 +112,12 @@ impl Tally {
     }
 }
 
+/// Whether each row of a file is to be found wrong, which its name says by its end: `.wrong`. A right row of such a file is a surprise,
+/// as a wrong row of another file is.
+pub fn must_be_wrong(file: &str) -> bool {
+    file.ends_with(".wrong")
+}
+
 // The place of the first byte in which two texts differ, or the shorter one's length.
 fn first_difference(one: &str, other: &str) -> usize {
     let mut place = 0usize;

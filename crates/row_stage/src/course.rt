@@ -1,5 +1,6 @@
 //! How one playing of a row goes: its lines are played, and what each says is compared with what is expected right behind it.
 use crate::block::{for_words, placed};
+use crate::comparing::{compare, compare_groups, note};
 use crate::names::Names;
 use crate::player::Player;
 use crate::stage::{MOST_SHOWN, Stage};
@@ -74,27 +75,11 @@ fn push_lines(text: &mut String, mark: &str, lines: &str) -> Result<(), AllocErr
     Ok(())
 }
 
-// Notes what is wrong first.
-fn note_wrong(
-    wrong: &mut String,
-    last: &str,
-    expected: &str,
-    found: &str,
-) -> Result<(), AllocError> {
-    if !wrong.is_empty() {
-        return Ok(());
-    }
-    writeln!(
-        wrong,
-        "  at {last}\n  expected: {expected}\n  found: {found}"
-    )
-}
-
 impl Course {
     pub fn new(alloc: Global) -> Result<Course, AllocError> {
         Ok(Course {
             alloc,
-            stage: Stage::new(alloc, Names::new(alloc))?,
+            stage: Stage::new(alloc, Names::new(alloc), 0)?,
             values: String::new(alloc),
             turn: 0,
             said: String::new(alloc),
@@ -107,12 +92,13 @@ impl Course {
 
     // Begins anew.
     fn begin(&mut self, turn: u64) -> Result<(), AllocError> {
-        self.stage = Stage::new(self.alloc, Names::new(self.alloc))?;
+        self.stage = Stage::new(self.alloc, Names::new(self.alloc), turn)?;
         self.stage.names.add(self.values.as_str())?;
         self.turn = turn;
         self.said.clear();
         self.expected = 0;
         self.last.clear();
+        self.last.push_str("the beginning")?;
         self.kept.clear();
         Ok(())
     }
@@ -132,7 +118,7 @@ impl Course {
         if self.turn > 0 && self.expected == 0 {
             push_lines(&mut self.kept, "=", self.said.as_str())?;
         } else if let Some(line) = line_at(self.said.as_str(), self.expected) {
-            note_wrong(&mut self.wrong, self.last.as_str(), "no more lines", line)?;
+            note(&mut self.wrong, self.last.as_str(), "no more lines", line)?;
         }
         self.said.clear();
         self.expected = 0;
@@ -144,7 +130,7 @@ impl Course {
         self.end_line()?;
         self.last.clear();
         write!(self.last, "{at}: {text}")?;
-        match self.stage.play::<P>(text, self.turn) {
+        match self.stage.play::<P>(text) {
             Ok(said) => {
                 self.said = said;
                 Ok(())
@@ -155,28 +141,27 @@ impl Course {
     }
 
     fn is_wrong(&mut self, expected: &str, found: &str) -> Result<(), AllocError> {
-        note_wrong(&mut self.wrong, self.last.as_str(), expected, found)
+        note(&mut self.wrong, self.last.as_str(), expected, found)
     }
 
     // Compares an expected line with the next one that was said.
     fn expect(&mut self, at: &str, line: &str) -> Result<(), AllocError> {
         let line = said_as(self.alloc, line)?;
         let (line, last) = (line.as_str(), self.last.as_str());
-        let found = line_at(self.said.as_str(), self.expected).unwrap_or("no more lines");
+        let Some(found) = line_at(self.said.as_str(), self.expected) else {
+            return writeln!(
+                self.wrong,
+                "  at {last}\n  expected: {line} ({at})\n  found: no more lines"
+            );
+        };
         self.expected = self.expected.saturating_add(1);
-        if found == line {
-            return Ok(());
-        }
-        writeln!(
-            self.wrong,
-            "  at {last}\n  expected: {line} ({at})\n  found: {found}"
-        )
+        compare(&mut self.wrong, last, at, line, found)
     }
 
     // Takes a line: plays it, or compares it with what was said where it begins with `=`.
     fn take<P: Player>(&mut self, at: &str, text: &str) -> Result<(), AllocError> {
         let Some(expanded) = self.stage.names.expand(text)? else {
-            return self.is_wrong("names that stand for something", text);
+            return note(&mut self.wrong, at, "names that stand for something", text);
         };
         let (verb, expected) = cut(expanded.as_str());
         if verb == "=" {
@@ -196,6 +181,9 @@ impl Course {
         }
         if self.is_right() {
             self.end_line()?;
+        }
+        if self.is_right() && self.stage.has_unmade() {
+            self.is_wrong("calls that are to fail", "fewer calls")?;
         }
         Ok(())
     }
@@ -220,18 +208,16 @@ impl Course {
         self.wrong.push_str(what)
     }
 
-    /// Notes that the groups that a sweep comes to aren't those that are expected, or that too few calls fail.
-    pub fn fail_groups(
+    /// Compares the groups that a sweep comes to, in which so many calls failed, with those that are expected.
+    pub fn judge_groups(
         &mut self,
         expected: &str,
         found: &str,
+        least: u64,
         failed: u64,
     ) -> Result<(), AllocError> {
         self.turn = 0;
-        write!(
-            self.wrong,
-            "  expected:\n{expected}  found, where {failed} calls fail:\n{found}"
-        )
+        compare_groups(&mut self.wrong, expected, found, least, failed)
     }
 
     /// Adds what is wrong, where anything is.

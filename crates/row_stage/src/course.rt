@@ -1,6 +1,8 @@
 //! How one playing of a row goes: its lines are played, and what each says is compared with what is expected right behind it.
+ghost use Rattle.std.specs.Prelude.{◌≡◌, ◌≢◌, ◌↔◌, [], IsTrue, string_bytes};
+
 use crate::block::{for_words, placed};
-use crate::comparing::{compare, compare_groups, note};
+use crate::comparing::{compare, compare_groups, compare_missing, note};
 use crate::names::Names;
 use crate::player::Player;
 use crate::stage::{MOST_SHOWN, Stage};
@@ -104,8 +106,21 @@ impl Course {
     }
 
     /// Whether nothing is wrong so far.
-    pub fn is_right(&self) -> bool {
+    pub fn is_right(&self) -> bool
+        ensures { IsTrue result ↔ (string_bytes self.now.wrong ≡ []) }
+    {
         self.wrong.is_empty()
+    }
+
+    // Keeps what was noted, where nothing was before.
+    fn keep(&mut self, notes: String)
+        ensures right { string_bytes notes ≡ [] → string_bytes self.new.wrong ≡ string_bytes self.old.wrong }
+        ensures wrong { string_bytes notes ≢ [] → string_bytes self.new.wrong ≢ [] }
+        ensures stays { string_bytes self.old.wrong ≢ [] → string_bytes self.new.wrong ≢ [] }
+    {
+        if self.wrong.is_empty() {
+            self.wrong = notes;
+        }
     }
 
     /// Whether the call that fails in turn was made.
@@ -118,7 +133,8 @@ impl Course {
         if self.turn > 0 && self.expected == 0 {
             push_lines(&mut self.kept, "=", self.said.as_str())?;
         } else if let Some(line) = line_at(self.said.as_str(), self.expected) {
-            note(&mut self.wrong, self.last.as_str(), "no more lines", line)?;
+            let notes = note(self.alloc, self.last.as_str(), "no more lines", line)?;
+            self.keep(notes);
         }
         self.said.clear();
         self.expected = 0;
@@ -141,27 +157,32 @@ impl Course {
     }
 
     fn is_wrong(&mut self, expected: &str, found: &str) -> Result<(), AllocError> {
-        note(&mut self.wrong, self.last.as_str(), expected, found)
+        let notes = note(self.alloc, self.last.as_str(), expected, found)?;
+        self.keep(notes);
+        Ok(())
     }
 
-    // Compares an expected line with the next one that was said.
-    fn expect(&mut self, at: &str, line: &str) -> Result<(), AllocError> {
-        let line = said_as(self.alloc, line)?;
+    // Compares an expected line with the next one that was said. What was wrong before stays wrong.
+    fn expect(&mut self, at: &str, line: &str) -> Result<(), AllocError>
+        ensures { string_bytes self.old.wrong ≢ [] → string_bytes self.new.wrong ≢ [] }
+    {
+        let (alloc, line) = (self.alloc, said_as(self.alloc, line)?);
         let (line, last) = (line.as_str(), self.last.as_str());
-        let Some(found) = line_at(self.said.as_str(), self.expected) else {
-            return writeln!(
-                self.wrong,
-                "  at {last}\n  expected: {line} ({at})\n  found: no more lines"
-            );
+        let notes = match line_at(self.said.as_str(), self.expected) {
+            Some(found) => compare(alloc, last, at, line, found)?,
+            None => compare_missing(alloc, last, at, line)?,
         };
         self.expected = self.expected.saturating_add(1);
-        compare(&mut self.wrong, last, at, line, found)
+        self.keep(notes);
+        Ok(())
     }
 
     // Takes a line: plays it, or compares it with what was said where it begins with `=`.
     fn take<P: Player>(&mut self, at: &str, text: &str) -> Result<(), AllocError> {
         let Some(expanded) = self.stage.names.expand(text)? else {
-            return note(&mut self.wrong, at, "names that stand for something", text);
+            let notes = note(self.alloc, at, "names that stand for something", text)?;
+            self.keep(notes);
+            return Ok(());
         };
         let (verb, expected) = cut(expanded.as_str());
         if verb == "=" {
@@ -205,7 +226,9 @@ impl Course {
     /// Notes what is wrong with the plays of a row as a whole.
     pub fn fail(&mut self, what: &str) -> Result<(), AllocError> {
         self.turn = 0;
-        self.wrong.push_str(what)
+        let notes = String::from_str(self.alloc, what)?;
+        self.keep(notes);
+        Ok(())
     }
 
     /// Compares the groups that a sweep comes to, in which so many calls failed, with those that are expected.
@@ -217,11 +240,15 @@ impl Course {
         failed: u64,
     ) -> Result<(), AllocError> {
         self.turn = 0;
-        compare_groups(&mut self.wrong, expected, found, least, failed)
+        let notes = compare_groups(self.alloc, expected, found, least, failed)?;
+        self.keep(notes);
+        Ok(())
     }
 
     /// Adds what is wrong, where anything is.
-    pub fn tell(&self, text: &mut String) -> Result<(), AllocError> {
+    pub fn tell(&self, text: &mut String) -> Result<(), AllocError>
+        ensures { string_bytes self.now.wrong ≡ [] → text.new ≡ text.old }
+    {
         if self.is_right() {
             return Ok(());
         }

@@ -1,20 +1,19 @@
 //! Bytes as rows write them.
 
-ghost use Rattle.std.specs.Prelude.{◌<◌, IfSome};
-
 use crate::words::number;
+use hex::{FromHex, FromHexError};
 use std::alloc::{AllocError, Global};
 
 // The most bytes that a part may write.
-const MOST: usize = 1_000_000;
+const MOST: u64 = 20_000_000;
 
 /// The bytes that a word writes, or `None` where it writes none: parts with commas between them, of which the
 /// last may be a text.
 ///
 /// | A part | Its bytes |
 /// |---|---|
-/// | `00ff` | in hexadecimal, lower case |
-/// | `5a*200` | some bytes, so many times |
+/// | `00ff` | in hexadecimal |
+/// | `5a*200` | some bytes, so many times, at least once |
 /// | `00..1f` | from the first byte to the last, counting up |
 /// | `@7*100` | so many bytes of a generator that begins with this number |
 /// | `'a text` | all that follows is a text, where `\n`, `\t`, `\r`, `\s` (a blank), `\\` and `\x` with two digits stand for other bytes |
@@ -27,7 +26,7 @@ pub fn bytes_of(alloc: Global, word: &str) -> Result<Option<Vec<u8>>, AllocError
         return Ok(None);
     };
     let mut bytes = Vec::new(alloc);
-    if !push_parts(&mut bytes, front)? {
+    if !push_parts(alloc, &mut bytes, front)? {
         return Ok(None);
     }
     match text {
@@ -50,12 +49,12 @@ fn parts_before(front: &str, has_text: bool) -> Option<&str> {
 }
 
 // Adds the bytes of parts, and says whether each of them writes some.
-fn push_parts(bytes: &mut Vec<u8>, parts: &str) -> Result<bool, AllocError> {
+fn push_parts(alloc: Global, bytes: &mut Vec<u8>, parts: &str) -> Result<bool, AllocError> {
     if parts.is_empty() {
         return Ok(true);
     }
     for part in parts.split(',') {
-        if !push_part(bytes, part)? {
+        if !push_part(alloc, bytes, part)? {
             return Ok(false);
         }
     }
@@ -63,70 +62,41 @@ fn push_parts(bytes: &mut Vec<u8>, parts: &str) -> Result<bool, AllocError> {
 }
 
 // Adds the bytes of a part, and says whether it writes some.
-fn push_part(bytes: &mut Vec<u8>, part: &str) -> Result<bool, AllocError> {
-    if part.is_empty() {
-        return Ok(false);
-    }
+fn push_part(alloc: Global, bytes: &mut Vec<u8>, part: &str) -> Result<bool, AllocError> {
     if let Some((first, last)) = part.split_once("..") {
         return push_range(bytes, first, last);
     }
     let Some((front, count)) = part.split_once('*') else {
-        return push_digits(bytes, part);
+        return push_repeated(alloc, bytes, part, 1);
     };
-    let Some(count) = number(count) else {
-        return Ok(false);
-    };
-    if count > MOST as u64 {
+    let count = number(count).unwrap_or(0);
+    if count == 0 || count > MOST {
         return Ok(false);
     }
     match front.strip_prefix('@') {
         Some(seed) => push_seeded(bytes, seed, count),
-        None => push_repeated(bytes, front, count),
+        None => push_repeated(alloc, bytes, front, count),
     }
 }
 
-// The value of a hexadecimal digit.
-fn digit(mark: u8) -> Option<u8>
-    ensures { IfSome result (λ value. value < 16) }
-{
-    match mark {
-        b'0'..=b'9' => Some(mark - b'0'),
-        b'a'..=b'f' => Some(mark - b'a' + 10),
-        _ => None,
+// The bytes that digits write, two each.
+fn digits_of(alloc: Global, digits: &str) -> Result<Option<Vec<u8>>, AllocError> {
+    match hex::decode(alloc, digits) {
+        Ok(bytes) => Ok(Some(bytes)),
+        Err(FromHexError::OutOfMemory) => Err(AllocError),
+        Err(_) => Ok(None),
     }
 }
 
 // The byte that two digits write.
-fn byte_of(high: u8, low: u8) -> Option<u8> {
-    Some(digit(high)? * 16 + digit(low)?)
-}
-
-// The byte that a part of two digits writes.
-fn byte_in(part: &str) -> Option<u8> {
-    match part.as_bytes() {
-        [high, low] => byte_of(*high, *low),
-        _ => None,
-    }
-}
-
-// Adds the bytes that digits write, two each.
-fn push_digits(bytes: &mut Vec<u8>, part: &str) -> Result<bool, AllocError> {
-    for pair in part.as_bytes().chunks(2) {
-        let byte = match pair {
-            [high, low] => byte_of(*high, *low),
-            _ => None,
-        };
-        match byte {
-            Some(byte) => bytes.push(byte)?,
-            None => return Ok(false),
-        }
-    }
-    Ok(true)
+fn byte_of(digits: &[u8]) -> Option<u8> {
+    let [byte] = <[u8; 1]>::from_hex(digits).ok()?;
+    Some(byte)
 }
 
 // Adds the bytes from one to another, counting up.
 fn push_range(bytes: &mut Vec<u8>, first: &str, last: &str) -> Result<bool, AllocError> {
-    let (Some(first), Some(last)) = (byte_in(first), byte_in(last)) else {
+    let (Some(first), Some(last)) = (byte_of(first.as_bytes()), byte_of(last.as_bytes())) else {
         return Ok(false);
     };
     for byte in first..=last {
@@ -136,16 +106,22 @@ fn push_range(bytes: &mut Vec<u8>, first: &str, last: &str) -> Result<bool, Allo
 }
 
 // Adds the bytes that digits write, so many times.
-fn push_repeated(bytes: &mut Vec<u8>, digits: &str, count: u64) -> Result<bool, AllocError> {
-    if digits.is_empty() {
+fn push_repeated(
+    alloc: Global,
+    bytes: &mut Vec<u8>,
+    digits: &str,
+    count: u64,
+) -> Result<bool, AllocError> {
+    let Some(piece) = digits_of(alloc, digits)? else {
+        return Ok(false);
+    };
+    if (piece.len() as u64).saturating_mul(count) > MOST {
         return Ok(false);
     }
     for _ in 0..count {
-        if bytes.len() > MOST || !push_digits(bytes, digits)? {
-            return Ok(false);
-        }
+        bytes.extend_from_slice(piece.as_slice())?;
     }
-    Ok(true)
+    Ok(!piece.is_empty())
 }
 
 // Adds so many bytes of a linear congruential generator that begins with a number.
@@ -198,7 +174,7 @@ fn step(at: At, mark: u8) -> Option<(At, Option<u8>)> {
         }),
         At::Backslash => escape(mark),
         At::High => Some((At::Low(mark), None)),
-        At::Low(high) => Some((At::Plain, Some(byte_of(high, mark)?))),
+        At::Low(high) => Some((At::Plain, Some(byte_of(&[high, mark])?))),
     }
 }
 

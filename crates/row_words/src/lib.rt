@@ -9,6 +9,6 @@ mod words;
 
 pub use bytes::bytes_of;
 pub use said::Said;
-pub use showing::{push_hex, push_shown, push_text};
-pub use tally::Tally;
+pub use showing::{push_shown, push_text, sum_of};
+pub use tally::{Tally, must_be_wrong};
 pub use words::{cut, number};

@@ -1,6 +1,6 @@
 //! What is said.
 
-use crate::showing::{push_hex, push_shown};
+use crate::showing::push_shown;
 use std::alloc::{AllocError, Global};
 use std::{fmt, mem};
 
@@ -70,16 +70,13 @@ impl Said {
 
     /// Adds bytes in hexadecimal as a word.
     pub fn hex(&mut self, bytes: &[u8]) {
-        self.part();
-        if push_hex(&mut self.text, bytes).is_err() {
-            self.is_whole = false;
-        }
+        self.made(hex::encode(self.alloc, bytes));
     }
 
     /// Adds bytes as `'TEXT` as a word, or their number and sum where they are more than so many.
     pub fn bytes(&mut self, bytes: &[u8], most: usize) {
         self.part();
-        if push_shown(&mut self.text, bytes, most).is_err() {
+        if push_shown(self.alloc, &mut self.text, bytes, most).is_err() {
             self.is_whole = false;
         }
     }

@@ -1,24 +1,11 @@
 //! Bytes as answers show them.
+ghost use Rattle.std.specs.Prelude.{◌≡◌, IfOk};
+ghost use Rattle.std.specs.String.{string_bytes};
+ghost use Rattle.hex.specs.Hex.{encode_lower};
+ghost use Rattle.sha2.specs.Sha256.{sha256};
 
-use std::alloc::AllocError;
-
-const DIGITS: [char; 16] = [
-    '0', '1', '2', '3', '4', '5', '6', '7', '8', '9', 'a', 'b', 'c', 'd', 'e', 'f',
-];
-
-// Adds the two digits of a byte.
-fn push_digits(text: &mut String, byte: u8) -> Result<(), AllocError> {
-    text.push(DIGITS[(byte >> 4) as usize])?;
-    text.push(DIGITS[(byte & 15) as usize])
-}
-
-/// Adds bytes in hexadecimal.
-pub fn push_hex(text: &mut String, bytes: &[u8]) -> Result<(), AllocError> {
-    for byte in bytes {
-        push_digits(text, *byte)?;
-    }
-    Ok(())
-}
+use sha2::{Digest, Sha256};
+use std::alloc::{AllocError, Global};
 
 // Adds a byte as texts of rows write it.
 fn push_byte(text: &mut String, byte: u8) -> Result<(), AllocError> {
@@ -28,10 +15,7 @@ fn push_byte(text: &mut String, byte: u8) -> Result<(), AllocError> {
         b'\r' => text.push_str("\\r"),
         b'\\' => text.push_str("\\\\"),
         b' '..=b'~' => text.push(byte as char),
-        _ => {
-            text.push_str("\\x")?;
-            push_digits(text, byte)
-        }
+        _ => write!(text, "\\x{byte:02x}"),
     }
 }
 
@@ -43,20 +27,24 @@ pub fn push_text(text: &mut String, bytes: &[u8]) -> Result<(), AllocError> {
     Ok(())
 }
 
-// The number that stands for bytes where they are too many to be shown (FNV-1a, of 64 bits).
-fn sum_of(bytes: &[u8]) -> u64 {
-    let mut sum = 0xcbf2_9ce4_8422_2325u64;
-    for byte in bytes {
-        sum = (sum ^ u64::from(*byte)).wrapping_mul(0x0100_0000_01b3);
-    }
-    sum
+/// The SHA-256 of bytes in 64 hexadecimal digits. It stands for bytes that are too many to be shown, and for the text of a file of rows.
+pub fn sum_of(alloc: Global, bytes: &[u8]) -> Result<String, AllocError>
+    ensures { IfOk result (λ sum. string_bytes sum ≡ encode_lower (sha256 bytes.now)) }
+{
+    let sum = Sha256::digest(bytes);
+    hex::encode(alloc, sum.as_slice())
 }
 
 /// Adds bytes as `'TEXT`, or their number and sum where they are more than so many.
-pub fn push_shown(text: &mut String, bytes: &[u8], most: usize) -> Result<(), AllocError> {
+pub fn push_shown(
+    alloc: Global,
+    text: &mut String,
+    bytes: &[u8],
+    most: usize,
+) -> Result<(), AllocError> {
     if bytes.len() > most {
-        let (len, sum) = (bytes.len(), sum_of(bytes));
-        return write!(text, "{len} bytes {sum:016x}");
+        let (len, sum) = (bytes.len(), sum_of(alloc, bytes)?);
+        return write!(text, "{len} bytes {sum}");
     }
     text.push('\'')?;
     push_text(text, bytes)

@@ -1,6 +1,10 @@
 //! Which rows are right.
+ghost use Rattle.std.specs.Prelude.{◌≡◌, ◌≢◌, [], IfOk};
+ghost use Rattle.std.specs.String.{string_bytes};
+ghost use Rattle.row_words.specs.Rows.{OneMoreRight, OneMoreWrong};
 
 use std::alloc::{AllocError, Global};
+use std::marker::Model;
 
 /// How many rows were right, and the names of the wrong ones.
 #[derive(Drop)]
@@ -13,8 +17,20 @@ pub struct Tally {
 // The most bytes of names that are kept, so that all of them stand in the end of an output that is shown.
 const MOST: usize = 400;
 
+impl Model for Tally {
+    ghost use Rattle.row_words.specs.Rows.{Counted};
+
+    ghost Value = { Counted };
+
+    ghost view = { λ tally. record { right = tally.right; wrong = tally.wrong } };
+}
+
 impl Tally {
-    pub fn new(alloc: Global) -> Tally {
+    /// No row.
+    pub fn new(alloc: Global) -> Tally
+        ensures right { result.right ≡ 0 }
+        ensures wrong { result.wrong ≡ 0 }
+    {
         Tally {
             right: 0,
             wrong: 0,
@@ -22,15 +38,20 @@ impl Tally {
         }
     }
 
-    /// Counts a row with its answer: the expected lines and the found ones. What is to be printed is nothing of a right row, and
-    /// `wrong: NAME` with both answers below of another.
+    /// Counts a row with its answer: the expected lines and the found ones. It is right exactly where they are the same. What is to be
+    /// printed is nothing of a right row, and `wrong: NAME` with both answers below of another.
     pub fn compared(
         &mut self,
         alloc: Global,
         name: &str,
         expected: &str,
         found: &str,
-    ) -> Result<String, AllocError> {
+    ) -> Result<String, AllocError>
+        ensures right { expected.now ≡ found.now → OneMoreRight self.old self.new }
+        ensures silent { expected.now ≡ found.now → IfOk result (λ text. string_bytes text ≡ []) }
+        ensures wrong { expected.now ≢ found.now → OneMoreWrong self.old self.new }
+        ensures told { expected.now ≢ found.now → IfOk result (λ text. string_bytes text ≢ []) }
+    {
         if expected == found {
             self.right = self.right.saturating_add(1);
             return Ok(String::new(alloc));
@@ -43,13 +64,18 @@ impl Tally {
     }
 
     /// Counts a row that isn't read as a wrong one. What is to be printed is `wrong: NAME` with the reason below.
-    pub fn unread(&mut self, alloc: Global, name: &str, why: &str) -> Result<String, AllocError> {
+    pub fn unread(&mut self, alloc: Global, name: &str, why: &str) -> Result<String, AllocError>
+        ensures wrong { OneMoreWrong self.old self.new }
+        ensures told { IfOk result (λ text. string_bytes text ≢ []) }
+    {
         self.count_wrong(name)?;
         format!(in alloc; "wrong: {name}\n  not read: {why}\n")
     }
 
     // Counts a wrong row, and keeps its name while there is room for it.
-    fn count_wrong(&mut self, name: &str) -> Result<(), AllocError> {
+    fn count_wrong(&mut self, name: &str) -> Result<(), AllocError>
+        ensures { OneMoreWrong self.old self.new }
+    {
         self.wrong = self.wrong.saturating_add(1);
         if self.names.len() < MOST {
             self.names.push_str("wrong: ")?;
@@ -60,19 +86,36 @@ impl Tally {
     }
 
     /// The number of rows that were right.
-    pub fn right(&self) -> u64 {
+    pub fn right(&self) -> u64
+        ensures { result ≡ self.now.right }
+    {
         self.right
     }
 
-    /// The names of wrong rows, a line each, as far as some hundred bytes hold them, and how many rows were wrong;
-    /// nothing where none was.
-    pub fn wrong_names(&self, alloc: Global) -> Result<String, AllocError> {
+    /// The number of rows that were wrong.
+    pub fn wrong(&self) -> u64
+        ensures { result ≡ self.now.wrong }
+    {
+        self.wrong
+    }
+
+    /// How many rows were wrong, and below their names, a line each, as far as some hundred bytes hold them; nothing where none was.
+    pub fn wrong_names(&self, alloc: Global) -> Result<String, AllocError>
+        ensures silent { self.now.wrong ≡ 0 → IfOk result (λ text. string_bytes text ≡ []) }
+        ensures told { self.now.wrong ≢ 0 → IfOk result (λ text. string_bytes text ≢ []) }
+    {
         if self.wrong == 0 {
             return Ok(String::new(alloc));
         }
         let (names, wrong) = (self.names.as_str(), self.wrong);
-        format!(in alloc; "{names}{wrong} rows are wrong\n")
+        format!(in alloc; "wrong rows: {wrong}\n{names}")
     }
+}
+
+/// Whether each row of a file is to be found wrong, which its name says by its end: `.wrong`. A right row of such a file is a surprise,
+/// as a wrong row of another file is.
+pub fn must_be_wrong(file: &str) -> bool {
+    file.ends_with(".wrong")
 }
 
 // The place of the first byte in which two texts differ, or the shorter one's length.

@@ -2,7 +2,7 @@
 
 ghost use Rattle.std.specs.Prelude.{◌≤◌, length};
 
-use row_words::{Said, bytes_of, push_hex, push_shown};
+use row_words::{Said, bytes_of, push_shown};
 use std::alloc::{AllocError, Global};
 use std::fmt;
 
@@ -135,12 +135,11 @@ impl Answer {
 
 // Bytes as a text, where they are ASCII that can be read, and else in hexadecimal.
 fn shown_bytes(alloc: Global, bytes: &[u8]) -> Result<String, AllocError> {
-    let mut text = String::new(alloc);
-    if bytes.iter().all(|byte| is_readable(*byte)) {
-        push_shown(&mut text, bytes, bytes.len())?;
-    } else {
-        push_hex(&mut text, bytes)?;
+    if !bytes.iter().all(|byte| is_readable(*byte)) {
+        return hex::encode(alloc, bytes);
     }
+    let mut text = String::new(alloc);
+    push_shown(alloc, &mut text, bytes, bytes.len())?;
     Ok(text)
 }
 

@@ -11,6 +11,9 @@ use aes_lanes::{
 use std::alloc::{AllocError, Global};
 use std::simd::prelude::*;
 
+/// The most bytes of a text whose lengths a call goes through.
+pub const LONGEST: usize = 10_000;
+
 /// Makes a call of this module, and says whether there is one of this name.
 pub fn answer(name: &str, args: &mut Arguments, answer: &mut Answer) -> bool {
     match name {
@@ -68,7 +71,8 @@ fn twice_in_sixteen_bytes(args: &mut Arguments, answer: &mut Answer) {
 
 // The last bytes of a text in counter mode on four bytes.
 fn end_of_stream(args: &mut Arguments, answer: &mut Answer) {
-    let (size, key, start) = (args.few(0), Key256::new(&args.array(1)), args.array(2));
+    let size = args.up_to(0, args.bytes(3).len());
+    let (key, start) = (Key256::new(&args.array(1)), args.array(2));
     let changed = args.changed(3);
     ctr32_xor(&key, &start, changed);
     answer.bytes(&changed[changed.len().saturating_sub(size)..]);
@@ -113,7 +117,10 @@ fn streams_are_plain(key: &Key256, start: &Block, bytes: &mut [u8], plain: &mut 
 fn streams(args: &mut Arguments, answer: &mut Answer) {
     let (key, start) = (Key256::new(&args.array(0)), args.array(1));
     let value = args.byte(2);
-    let (least, most) = (args.few(3), args.few(4));
+    let (least, most) = (args.up_to(3, LONGEST), args.up_to(4, LONGEST));
+    if least > most {
+        return args.refuse("a range of no lengths");
+    }
     let alloc = answer.alloc();
     for length in least..=most {
         let same = are_plain(alloc, &key, &start, value, length);
@@ -132,7 +139,7 @@ fn are_plain(
     value: u8,
     length: usize,
 ) -> Result<bool, AllocError>
-    requires { length ≤ 200000 }
+    requires { length ≤ LONGEST }
 {
     let mut one = vec![in alloc; value; length]?;
     let mut other = vec![in alloc; value; length]?;

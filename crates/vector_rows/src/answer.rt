@@ -42,15 +42,15 @@ impl Answer {
         }
     }
 
-    /// Adds zero bytes, at most 8,000, and gives them to be changed.
+    /// So many zero bytes, which become the answer's, to be changed.
     pub fn room(&mut self, count: usize) -> &mut [u8]
-        ensures { length result.now ≤ 8000 }
+        ensures { length result.now ≤ count }
     {
-        match vec![in self.alloc; 0; count.min(8_000)] {
+        match vec![in self.alloc; 0; count] {
             Ok(zeros) => self.bytes = zeros,
             Err(_) => self.said.lacks(),
         }
-        let most = self.bytes.len().min(8_000);
+        let most = self.bytes.len().min(count);
         &mut self.bytes[..most]
     }
 
@@ -82,6 +82,11 @@ impl Answer {
     /// Adds the number and the sum of bytes.
     pub fn sum(&mut self, bytes: &[u8]) {
         self.said.bytes(bytes, 0);
+    }
+
+    /// Adds the number and the sum of the answer's bytes.
+    pub fn sum_of_bytes(&mut self) {
+        self.said.bytes(self.bytes.as_slice(), 0);
     }
 
     /// Adds what a value shows as a word.

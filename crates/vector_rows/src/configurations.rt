@@ -45,7 +45,7 @@ fn changed_answer(name: &str, args: &Arguments, answer: &mut Answer) {
         "cm-master-with" => master_read(bytes, answer),
         "cm-header-with" => token_read(bytes, args.bytes(1), answer),
         "cm-payload-with" => token_read(args.bytes(0), bytes, answer),
-        _ => signature(bytes, &keys(args, 0), answer),
+        _ => signature(bytes, args, 0, answer),
     }
 }
 
@@ -54,11 +54,11 @@ fn changed(whole: &str, args: &Arguments, place: usize, answer: &mut Answer) -> 
     let alloc = answer.alloc();
     let (old, new) = (args.text(place), args.text(place.saturating_add(1)));
     match whole.split_once(old) {
-        Some((before, after)) => match format!(in alloc; "{before}{new}{after}") {
+        Some((before, after)) if old != new => match format!(in alloc; "{before}{new}{after}") {
             Ok(text) => return text,
             Err(_) => answer.lacks(),
         },
-        None => answer.word("a part that isn't there"),
+        _ => args.refuse("no part that can be replaced"),
     }
     String::new(alloc)
 }
@@ -71,7 +71,7 @@ fn go_read(bytes: &[u8], answer: &mut Answer) {
 // What a call on a configuration that can be read answers.
 fn go_answer(name: &str, args: &Arguments, answer: &mut Answer) {
     let Some(conf) = gocrypt_conf::read(answer.alloc(), args.bytes(0)).ok() else {
-        return answer.word("no configuration");
+        return args.refuse("no configuration");
     };
     match name {
         "go-cost" => cost_shown(&conf.cost, answer),
@@ -106,7 +106,7 @@ fn go_make(args: &Arguments, answer: &mut Answer) {
         nonce: args.array(6),
     };
     let Some(cost) = cost(args, 1) else {
-        return answer.word("no cost");
+        return args.refuse("no cost");
     };
     match gocrypt_conf::make(answer.alloc(), args.bytes(0), &cost, &drawn) {
         Ok(made) => answer.bytes(made.as_slice()),
@@ -119,7 +119,7 @@ fn cm_answer(name: &str, args: &Arguments, answer: &mut Answer) -> bool {
     match name {
         "cm-vault" => vault_read(args.bytes(0), answer),
         "cm-unlock" => cm_unlock(args, answer),
-        "cm-signature" => signature(args.bytes(2), &keys(args, 0), answer),
+        "cm-signature" => signature(args.bytes(2), args, 0, answer),
         "cm-signature-before" => signature_before(args, answer),
         "cm-make-master" => made(args, answer, true),
         "cm-make-vault" => made(args, answer, false),
@@ -168,7 +168,7 @@ pub fn keys(args: &Arguments, place: usize) -> CmKeys
 fn cm_unlock(args: &Arguments, answer: &mut Answer) {
     match read_master(answer.alloc(), args.bytes(0)).ok() {
         Some(file) => cm_unlocked(&file, args.bytes(1), answer),
-        None => answer.word("no masterkey.cryptomator"),
+        None => args.refuse("no masterkey.cryptomator"),
     }
 }
 
@@ -183,19 +183,22 @@ fn cm_unlocked(file: &MasterFile, pass: &[u8], answer: &mut Answer) {
     }
 }
 
-fn signature(bytes: &[u8], keys: &CmKeys, answer: &mut Answer) {
+// The combination that a token names, where the signature is right.
+fn signature(bytes: &[u8], args: &Arguments, place: usize, answer: &mut Answer)
+    requires { place < 100 }
+{
     let Some(file) = read_vault(answer.alloc(), bytes).ok() else {
-        return answer.word("no vault.cryptomator");
+        return args.refuse("no vault.cryptomator");
     };
-    match check_signature(&file, keys) {
-        Ok(()) => answer.word("right"),
+    match check_signature(&file, &keys(args, place)) {
+        Ok(()) => answer.word(file.combo.name()),
         Err(wrong) => answer.shows(&wrong),
     }
 }
 
 fn signature_before(args: &Arguments, answer: &mut Answer) {
     let followed = followed(args.bytes(3), args.bytes(0), answer);
-    signature(followed.as_slice(), &keys(args, 1), answer);
+    signature(followed.as_slice(), args, 1, answer);
 }
 
 // Some bytes, and others behind them.
@@ -216,22 +219,15 @@ fn drawn(args: &Arguments) -> CmDraw {
     }
 }
 
-fn cm_make(args: &Arguments, alloc: Global) -> Option<CmFiles> {
-    let cost = cost(args, 1)?;
-    cryptomator_conf::make(alloc, args.bytes(0), &cost, &drawn(args)).ok()
-}
-
-// One of the two files that are made, where there is memory for them and the cost is one.
+// One of the two files that are made.
 fn made(args: &Arguments, answer: &mut Answer, is_master: bool) {
-    match cm_make(args, answer.alloc()) {
-        Some(files) => {
-            if is_master {
-                answer.bytes(files.master.as_slice());
-            } else {
-                answer.bytes(files.vault.as_slice());
-            }
-        }
-        None => answer.word("none"),
+    let Some(cost) = cost(args, 1) else {
+        return args.refuse("no cost");
+    };
+    match cryptomator_conf::make(answer.alloc(), args.bytes(0), &cost, &drawn(args)) {
+        Ok(CmFiles { master, .. }) if is_master => answer.bytes(master.as_slice()),
+        Ok(CmFiles { vault, .. }) => answer.bytes(vault.as_slice()),
+        Err(_) => answer.lacks(),
     }
 }
 
@@ -239,7 +235,7 @@ fn made(args: &Arguments, answer: &mut Answer, is_master: bool) {
 fn made_ctrmac(args: &Arguments, answer: &mut Answer) {
     let alloc = answer.alloc();
     let Some(cost) = cost(args, 1) else {
-        return answer.word("none");
+        return args.refuse("no cost");
     };
     match make_combo(alloc, args.bytes(0), &cost, Combo::SivCtrMac, &drawn(args)) {
         Ok(files) => answer.bytes(files.vault.as_slice()),

@@ -1,6 +1,6 @@
 //! Calls of chunk_files.
 
-ghost use Rattle.std.specs.Prelude.{◌≡◌, ◌+◌, ◌<◌, ◌≤◌, length, IfOk, OnOk};
+ghost use Rattle.std.specs.Prelude.{◌≡◌, ◌+◌, ◌-◌, ◌^◌, ◌<◌, ◌≤◌, length, IfOk, OnOk};
 ghost use Rattle.chunk_files.specs.Keys.{format_of};
 
 use crate::answer::Answer;
@@ -19,6 +19,7 @@ pub fn answer(name: &str, args: &mut Arguments, answer: &mut Answer) -> bool {
         "first-step" => first_step(args, answer),
         "begin" => begun(args, answer),
         "first-chunk" => first_chunk(args, answer),
+        "behind-holes" => behind_holes(args, answer),
         _ => return small_answer(name, args, answer),
     }
     true
@@ -36,21 +37,24 @@ fn small_answer(name: &str, args: &Arguments, answer: &mut Answer) -> bool {
     true
 }
 
-// The layout that an argument names: `go`, `ctr` for Cryptomator's with SIV_CTRMAC, or else that with SIV_GCM.
+// The layout that an argument names: `go`, or Cryptomator's with SIV_GCM, `cm`, or with SIV_CTRMAC, `ctr`.
 fn layout(args: &Arguments) -> Layout {
     match args.word(0) {
         "go" => Layout::Go,
+        "cm" => Layout::CmGcm,
         "ctr" => Layout::CmCtr,
-        _ => Layout::CmGcm,
+        _ => {
+            args.refuse("no such layout");
+            Layout::Go
+        }
     }
 }
 
 // The keys that the first two arguments write: one, or the encryption key and the MAC key.
 fn keys(args: &Arguments) -> ContentKeys {
-    let key = args.array(1);
     match layout(args) {
-        Layout::Go => ContentKeys::go(&key),
-        Layout::CmGcm => ContentKeys::cm_gcm(&key),
+        Layout::Go => ContentKeys::go(&args.array(1)),
+        Layout::CmGcm => ContentKeys::cm_gcm(&args.array(1)),
         Layout::CmCtr => two_keys(&args.array(1)),
     }
 }
@@ -65,7 +69,7 @@ fn two_keys(both: &[u8; 64]) -> ContentKeys {
 // The number of plain bytes of a full chunk.
 fn full_of(keys: &ContentKeys) -> usize
     ensures full { result ≡ (format_of keys.now).full_size }
-    ensures few { result ≤ 32768 }
+    ensures some { 1 ≤ result }
 {
     match keys.layout() {
         Layout::Go => 4_096,
@@ -149,7 +153,7 @@ impl Making {
     // Adds a chunk, if it has any bytes.
     fn add(&mut self, plain: &[u8]) -> Result<(), NotMade>
         requires size { length plain.now ≤ (format_of self.old.encoder.keys).full_size }
-        requires count { self.old.encoder.number < 100 }
+        requires count { self.old.encoder.number < 2 ^ 64 - 1 }
         ensures { OnOk result ((self.new.encoder.number ≤ self.old.encoder.number + 1) × (self.new.encoder.keys ≡ self.old.encoder.keys)) }
     {
         if plain.is_empty() {
@@ -161,20 +165,20 @@ impl Making {
         Ok(())
     }
 
-    // Adds a content of at most four chunks, each of so many bytes.
+    // Adds a content in chunks, each of so many bytes but the last.
     fn add_all(&mut self, content: &[u8], full: usize) -> Result<(), NotMade>
         requires size { full ≡ (format_of self.old.encoder.keys).full_size }
-        requires few { full ≤ 32768 }
+        requires some { 1 ≤ full }
         requires first { self.old.encoder.number ≡ 0 }
     {
-        self.add(chunk_at(content, 0, full))?;
-        self.add(chunk_at(content, full, full))?;
-        self.add(chunk_at(content, 2 * full, full))?;
-        self.add(chunk_at(content, 3 * full, full))
+        'chunks: for number in 0..content.len().div_ceil(full) {
+            self.add(chunk_at(content, number.saturating_mul(full), full))?;
+        }
+        Ok(())
     }
 }
 
-// The file of a content of at most four chunks.
+// The file of a content.
 fn made(
     alloc: Global,
     keys: ContentKeys,
@@ -311,19 +315,40 @@ fn gives(args: &Arguments, file: &[u8], content: &[u8], answer: &mut Answer) {
 
 // A part of a file by its name: `head`, `first`, `second`, `last`, and `other`, the other file's header. The arguments write the sizes of a
 // header and of a full chunk that is stored.
-fn named_part<'f>(args: &Arguments, file: &'f [u8], other: &'f [u8], name: &str) -> &'f [u8] {
-    let (header, stored) = (args.few(2), args.few(3));
+fn named_part<'f>(
+    args: &Arguments,
+    file: &'f [u8],
+    other: &'f [u8],
+    name: &str,
+) -> Option<&'f [u8]> {
+    let (header, stored) = (args.up_to(2, 100), args.up_to(3, 100_000));
     match name {
-        "head" => part(file, 0, header),
-        "first" => part(file, header, header + stored),
-        "second" => part(file, header + stored, header + 2 * stored),
-        "last" => part(file, header + 2 * stored, file.len()),
-        "other" => part(other, 0, header),
-        _ => &[],
+        "head" => file.get(..header),
+        "first" => file.get(header..header + stored),
+        "second" => file.get(header + stored..header + 2 * stored),
+        "last" => file.get(header + 2 * stored..),
+        "other" => other.get(..header),
+        _ => None,
     }
 }
 
-// Adds a part of a file: `NAME`, `NAME:COUNT` for its first bytes alone, or `NAME!` with a bit of its last byte changed.
+// The part that a word names: `NAME`, or `NAME:COUNT` for its first bytes alone.
+fn worded_part<'f>(
+    args: &Arguments,
+    file: &'f [u8],
+    other: &'f [u8],
+    word: &str,
+) -> Option<&'f [u8]> {
+    match word.split_once(':') {
+        Some((name, most)) => {
+            let most = number(most)?;
+            named_part(args, file, other, name)?.get(..usize::try_from(most).ok()?)
+        }
+        None => named_part(args, file, other, word),
+    }
+}
+
+// Adds a part of a file by its word; one with `!` behind it with a bit of its last byte changed.
 fn push_part(
     parts: &mut Vec<u8>,
     args: &Arguments,
@@ -331,13 +356,11 @@ fn push_part(
     other: &[u8],
     word: &str,
 ) -> Result<(), AllocError> {
-    let (name, most) = match word.split_once(':') {
-        Some((name, most)) => (name, number(most)),
-        None => (word, None),
-    };
-    let changed = name.strip_suffix('!');
-    let found = named_part(args, file, other, changed.unwrap_or(name));
-    parts.extend_from_slice(part(found, 0, most.unwrap_or(u64::MAX) as usize))?;
+    let changed = word.strip_suffix('!');
+    match worded_part(args, file, other, changed.unwrap_or(word)) {
+        Some(found) if !found.is_empty() => parts.extend_from_slice(found)?,
+        _ => args.refuse("no such part"),
+    }
     if let (Some(_), Some(last)) = (changed, parts.last_mut()) {
         *last ^= 1;
     }
@@ -348,10 +371,10 @@ fn push_part(
 fn of_parts(args: &Arguments, answer: &mut Answer) {
     let alloc = answer.alloc();
     let Ok(file) = made(alloc, keys(args), args.bytes(4), args.bytes(5)) else {
-        return answer.word("no file");
+        return args.refuse("no file");
     };
     let Ok(other) = made(alloc, keys(args), b"x", args.bytes(6)) else {
-        return answer.word("no other file");
+        return args.refuse("no other file");
     };
     let mut parts = Vec::new(alloc);
     for place in 7..args.count() {
@@ -383,8 +406,10 @@ fn asked_twice(decoder: &mut Decoder, buffer: &mut ChunkBuf, args: &Arguments, a
     answer.unless(is_all_taken, "it takes fewer bytes:");
     let left = decoder.room().checked_add(file.len());
     answer.unless(left == Some(room), "it has another room:");
-    if args.word(3) == "ended" {
-        decoder.end();
+    match args.word(3) {
+        "ended" => decoder.end(),
+        "open" => {}
+        _ => args.refuse("neither ended nor open"),
     }
     let first = decoder.next(buffer);
     let second = decoder.next(buffer);
@@ -394,15 +419,18 @@ fn asked_twice(decoder: &mut Decoder, buffer: &mut ChunkBuf, args: &Arguments, a
 
 // The fault of this name, with a number where it has one.
 fn fault(args: &Arguments) -> ChunkFault {
-    let number = args.number(1);
     match args.word(0) {
+        "NoHeader" => ChunkFault::NoHeader,
         "ZeroId" => ChunkFault::ZeroId,
         "HeaderTag" => ChunkFault::HeaderTag,
-        "HeaderVersion" => ChunkFault::HeaderVersion(number.min(65_535) as u16),
-        "ShortChunk" => ChunkFault::ShortChunk(number),
-        "ZeroNonce" => ChunkFault::ZeroNonce(number),
-        "ChunkTag" => ChunkFault::ChunkTag(number),
-        _ => ChunkFault::NoHeader,
+        "HeaderVersion" => ChunkFault::HeaderVersion(args.up_to(1, 65_535) as u16),
+        "ShortChunk" => ChunkFault::ShortChunk(args.number(1)),
+        "ZeroNonce" => ChunkFault::ZeroNonce(args.number(1)),
+        "ChunkTag" => ChunkFault::ChunkTag(args.number(1)),
+        _ => {
+            args.refuse("no such fault");
+            ChunkFault::NoHeader
+        }
     }
 }
 
@@ -429,24 +457,108 @@ fn first_chunk(args: &Arguments, answer: &mut Answer) {
     }
 }
 
+// How many bytes of a buffer are written and shown at most.
+const SHOWN: usize = 1_000;
+
 // The first bytes of a buffer to which some were written at a place.
 fn buffer(args: &Arguments, answer: &mut Answer) {
     let Ok(mut buffer) = ChunkBuf::new(answer.alloc()) else {
         return answer.lacks();
     };
-    write_at(buffer.bytes_mut(), args.few(0), args.bytes(1));
-    answer.bytes(part(buffer.bytes(), 0, args.few(2)));
+    let (place, written) = (args.up_to(0, SHOWN), args.bytes(1));
+    if written.len() > SHOWN {
+        return args.refuse("more bytes than there is room for");
+    }
+    write_at(buffer.bytes_mut(), place, written);
+    answer.bytes(&buffer.bytes()[..args.up_to(2, SHOWN)]);
 }
 
-fn write_at(bytes: &mut [u8], place: usize, written: &[u8]) {
-    let place = place.min(bytes.len());
-    let count = written.len().min(bytes.len() - place);
-    bytes[place..place + count].copy_from_slice(&written[..count]);
+fn write_at(bytes: &mut [u8], place: usize, written: &[u8])
+    requires { place + length written.now ≤ length bytes.old }
+{
+    bytes[place..place + written.len()].copy_from_slice(written);
 }
 
 fn buffer_size(answer: &mut Answer) {
     match ChunkBuf::new(answer.alloc()) {
         Ok(mut buffer) => answer.shows(&buffer.bytes_mut().len()),
         Err(_) => answer.lacks(),
+    }
+}
+
+// The size of a hole of gocryptfs in bytes, and how many are fed at most.
+const HOLE: usize = 4_128;
+
+const MOST_HOLES: usize = 100_000;
+
+// The bytes of a chunk of gocryptfs that stands behind so many holes, or its fault.
+fn behind_holes(args: &Arguments, answer: &mut Answer) {
+    let alloc = answer.alloc();
+    let Ok(mut buffer) = ChunkBuf::new(alloc) else {
+        return answer.lacks();
+    };
+    match Decoder::start(alloc, ContentKeys::go(&args.array(0))) {
+        Ok(mut decoder) => fed_with_holes(&mut decoder, &mut buffer, args, answer),
+        Err(_) => answer.lacks(),
+    }
+}
+
+fn fed_with_holes(
+    decoder: &mut Decoder,
+    buffer: &mut ChunkBuf,
+    args: &Arguments,
+    answer: &mut Answer,
+)
+    requires { decoder.old.taken ≡ 0 }
+{
+    feed(decoder, args.bytes(1));
+    if !feed_holes(decoder, buffer, &[0; HOLE], args.up_to(2, MOST_HOLES)) {
+        return args.refuse("no hole");
+    }
+    decoder.feed(args.bytes(3));
+    decoder.end();
+    last_chunk(decoder, buffer, answer);
+}
+
+// Feeds so many holes, and says whether there are some, and each is one.
+fn feed_holes(decoder: &mut Decoder, buffer: &mut ChunkBuf, hole: &[u8], holes: usize) -> bool
+    requires hole { length hole.now ≤ 5000 }
+    requires holes { holes ≤ 100000 }
+    requires taken { decoder.old.taken ≤ 20000000 }
+    ensures { decoder.new.taken ≤ 600000000 }
+{
+    'holes: for count in 0..holes {
+        if !is_hole(decoder, buffer, hole) {
+            return false;
+        }
+    }
+    holes > 0
+}
+
+// Feeds bytes, of which some may be taken.
+fn feed(decoder: &mut Decoder, piece: &[u8])
+    requires { decoder.old.taken + length piece.now ≤ 2 ^ 64 - 1 }
+    ensures { decoder.new.taken ≤ decoder.old.taken + length piece.now }
+{
+    decoder.feed(piece);
+}
+
+// Feeds a hole, and says whether it is one.
+fn is_hole(decoder: &mut Decoder, buffer: &mut ChunkBuf, hole: &[u8]) -> bool
+    requires { decoder.old.taken + length hole.now ≤ 2 ^ 64 - 1 }
+    ensures { decoder.new.taken ≤ decoder.old.taken + length hole.now }
+{
+    feed(decoder, hole);
+    decoder.next(buffer) == Ok(Step::Chunk(4_096))
+}
+
+// The bytes of the chunk with which a file ends, or its fault.
+fn last_chunk(decoder: &mut Decoder, buffer: &mut ChunkBuf, answer: &mut Answer) {
+    match decoder.next(buffer) {
+        Ok(Step::Chunk(count)) => {
+            answer.bytes(part(buffer.bytes(), 0, count));
+            answer.unless(decoder.next(buffer) == Ok(Step::End), "and more");
+        }
+        other => step(&other, answer),
     }
 }

@@ -2,7 +2,7 @@
 
 ghost use Rattle.std.specs.Prelude.{◌≡◌, ◌<◌, ◌≤◌, ◌^◌, length, IsOk};
 
-use crate::aes::{block_number, plain_stream};
+use crate::aes::{LONGEST, block_number, plain_stream};
 use crate::answer::Answer;
 use crate::arguments::Arguments;
 use aes_lanes::{Block, Cipher, Key256, same_bytes};
@@ -48,9 +48,9 @@ fn wrong_in(
     plain: &[u8],
 ) -> &'static str
     requires some_iv { 0 < length iv.now }
-    requires iv_within { length iv.now ≤ 200000 }
-    requires ad_within { length ad.now ≤ 200000 }
-    requires text_within { length text.old ≤ 200000 }
+    requires iv_within { length iv.now ≤ 20000000 }
+    requires ad_within { length ad.now ≤ 20000000 }
+    requires text_within { length text.old ≤ 20000000 }
 {
     let mut wrong = *tag;
     wrong[12] ^= 1;
@@ -76,7 +76,7 @@ fn sealed(args: &mut Arguments, answer: &mut Answer) {
     let gcm = Gcm::new(Key256::new(&args.array(0)));
     let (iv, ad, plain) = (args.bytes(1), args.bytes(2), args.bytes(3));
     if iv.is_empty() {
-        return answer.word("an initialization vector of no bytes");
+        return args.refuse("an initialization vector of no bytes");
     }
     let alloc = answer.alloc();
     let Ok(mut text) = plain.to_vec(alloc) else {
@@ -124,8 +124,8 @@ fn is_sealed_as_plain(
     value: u8,
     count: usize,
 ) -> Result<bool, AllocError>
-    requires ad_within { length ad.now ≤ 200000 }
-    requires text_within { count ≤ 200000 }
+    requires ad_within { length ad.now ≤ 20000000 }
+    requires text_within { count ≤ LONGEST }
 {
     let mut text = vec![in alloc; value; count]?;
     let mut plain = vec![in alloc; value; count]?;
@@ -139,8 +139,12 @@ fn is_sealed_as_plain(
 fn lengths(args: &Arguments, answer: &mut Answer) {
     let (key, iv, ad) = (args.array(0), args.array(1), args.bytes(2));
     let value = args.byte(3);
+    let (least, most) = (args.up_to(4, LONGEST), args.up_to(5, LONGEST));
+    if least > most {
+        return args.refuse("a range of no lengths");
+    }
     let alloc = answer.alloc();
-    for count in args.few(4)..=args.few(5) {
+    for count in least..=most {
         let same = is_sealed_as_plain(alloc, &key, &iv, ad, value, count);
         if !answer.goes_on(same, "others of", count) {
             return;

@@ -13,15 +13,12 @@ pub fn answer(name: &str, args: &mut Arguments, answer: &mut Answer) -> bool {
         "hmac-384" => answer.bytes(&hmac384(args.bytes(0), args.bytes(1))),
         "hmac-512" => answer.bytes(&hmac512(args.bytes(0), args.bytes(1))),
         "hmac-256-pieces" => pieces(args, answer),
-        "hkdf-256" => {
-            let room = answer.room(args.few(3));
-            hkdf256(args.bytes(0), args.bytes(1), args.bytes(2), room);
+        "hkdf-256" => derived(args, answer),
+        "hkdf-256-sum" => {
+            derived(args, answer);
+            answer.sum_of_bytes();
         }
-        "pbkdf2-256" => {
-            let rounds = (args.few(2) as u32).max(1);
-            let room = answer.room(args.few(3));
-            pbkdf2_256(args.bytes(0), args.bytes(1), rounds, room);
-        }
+        "pbkdf2-256" => stretched(args, answer),
         "scrypt" => mixed(args, answer),
         "scrypt-cost" => match cost(args, 0) {
             Some(cost) => cost_shown(&cost, answer),
@@ -30,6 +27,23 @@ pub fn answer(name: &str, args: &mut Arguments, answer: &mut Answer) -> bool {
         _ => return false,
     }
     true
+}
+
+// The most bytes that HKDF by SHA-256 makes (RFC 5869, section 2.3): 255 blocks.
+const MOST: usize = 8_160;
+
+fn derived(args: &Arguments, answer: &mut Answer) {
+    let room = answer.room(args.up_to(3, MOST));
+    hkdf256(args.bytes(0), args.bytes(1), args.bytes(2), room);
+}
+
+fn stretched(args: &Arguments, answer: &mut Answer) {
+    let rounds = args.up_to(2, 200_000) as u32;
+    if rounds == 0 {
+        return args.refuse("no rounds");
+    }
+    let room = answer.room(args.up_to(3, MOST));
+    pbkdf2_256(args.bytes(0), args.bytes(1), rounds, room);
 }
 
 fn pieces(args: &Arguments, answer: &mut Answer) {
@@ -60,10 +74,10 @@ pub fn cost_shown(cost: &ScryptCost, answer: &mut Answer) {
 
 fn mixed(args: &Arguments, answer: &mut Answer) {
     let Some(cost) = cost(args, 2) else {
-        return answer.word("no cost");
+        return args.refuse("no cost");
     };
     let alloc = answer.alloc();
-    let room = answer.room(args.few(5));
+    let room = answer.room(args.up_to(5, MOST));
     if scrypt(alloc, args.bytes(0), args.bytes(1), &cost, room).is_err() {
         answer.lacks();
     }

@@ -17,14 +17,15 @@ mod ports;
 mod rows;
 mod texts;
 
-use row_words::Tally;
+use row_words::{Tally, must_be_wrong, sum_of};
 use std::process::ExitCode;
 use std::rt::{Env, Files};
 use std::{env, fs, io};
 
 fn main(rt: HostRuntime) -> ExitCode {
-    match wrong_rows(&rt) {
-        Ok(wrong) => status(&rt, wrong.as_str()),
+    match play_files(&rt) {
+        Ok(true) => ExitCode::from(0),
+        Ok(false) => ExitCode::from(1),
         Err(fault) => {
             let _ = eprintln!(rt; "{fault}");
             ExitCode::from(2)
@@ -32,39 +33,38 @@ fn main(rt: HostRuntime) -> ExitCode {
     }
 }
 
-// Prints the names of wrong rows, and answers whether there are any.
-fn status(rt: &impl Eprint, wrong: &str) -> ExitCode {
-    if wrong.is_empty() {
-        return ExitCode::from(0);
-    }
-    let _ = eprint!(rt; "{wrong}");
-    ExitCode::from(1)
-}
-
-// Plays the rows of each file that the program's words name, and gives the names of the wrong ones.
-fn wrong_rows<R: Env + Files + Print + AllocGlobal>(rt: &R) -> io::Result<String> {
-    let mut tally = Tally::new(rt.alloc());
-    play_files(rt, &mut tally)?;
-    Ok(tally.wrong_names(rt.alloc())?)
-}
-
-fn play_files<R: Env + Files + Print + AllocGlobal>(rt: &R, tally: &mut Tally) -> io::Result<()> {
+// Plays the rows of each file that the program's words name, and says whether all are right.
+fn play_files<R: Env + Files + Print + Eprint + AllocGlobal>(rt: &R) -> io::Result<bool> {
+    let mut are_right = true;
     for file in env::args(rt)?.skip(1) {
-        play(rt, tally, file.as_str())?;
+        let mut tally = Tally::new(rt.alloc());
+        play(rt, &mut tally, file.as_str())?;
+        if tally.wrong() != 0 {
+            are_right = false;
+        }
     }
-    Ok(())
+    Ok(are_right)
 }
 
-// Plays the rows of a file. It prints the wrong ones, and how many were right.
-fn play<R: Files + Print + AllocGlobal>(rt: &R, tally: &mut Tally, file: &str) -> io::Result<()> {
-    let before = tally.right();
+// Plays the rows of a file. It prints the wrong ones, how many were right and wrong, and the sum of the file's text. What is a surprise
+// stands on standard error: wrong rows, or the right ones of a file whose rows are to be found wrong.
+fn play<R: Files + Print + Eprint + AllocGlobal>(
+    rt: &R,
+    tally: &mut Tally,
+    file: &str,
+) -> io::Result<()> {
     let text = fs::read_to_string(rt, file)?;
     play_lines(rt, tally, file, text.as_str())?;
-    let right = tally.right().saturating_sub(before);
-    println!(rt; "{file}: {right} rows right")
+    let (right, wrong) = (tally.right(), tally.wrong());
+    let sum = sum_of(rt.alloc(), text.as_bytes())?;
+    if !must_be_wrong(file) {
+        let names = tally.wrong_names(rt.alloc())?;
+        eprint!(rt; "{names}")?;
+    }
+    println!(rt; "{file}: {right} rows right, {wrong} wrong, sha256 {sum}")
 }
 
-fn play_lines<R: Print + AllocGlobal>(
+fn play_lines<R: Print + Eprint + AllocGlobal>(
     rt: &R,
     tally: &mut Tally,
     file: &str,
@@ -75,10 +75,11 @@ fn play_lines<R: Print + AllocGlobal>(
         let place = place.saturating_add(1);
         play_line(rt, tally, &mut given, file, place, line)?;
     }
-    Ok(())
+    let unused = given.end(tally, file)?;
+    print!(rt; "{unused}")
 }
 
-fn play_line<R: Print + AllocGlobal>(
+fn play_line<R: Print + Eprint + AllocGlobal>(
     rt: &R,
     tally: &mut Tally,
     given: &mut rows::Given,
@@ -86,6 +87,10 @@ fn play_line<R: Print + AllocGlobal>(
     place: usize,
     line: &str,
 ) -> io::Result<()> {
+    let before = tally.right();
     let said = given.play(tally, file, place, line)?;
+    if must_be_wrong(file) && tally.right() > before {
+        eprintln!(rt; "right: {file}:{place}")?;
+    }
     print!(rt; "{said}")
 }

@@ -101,7 +101,7 @@ fn encrypted(args: &mut Arguments, answer: &mut Answer) {
     let (eme, tweak) = (Eme::new(Key256::new(&args.array(0))), args.array(1));
     let changed = args.changed_blocks(2);
     if changed.is_empty() || changed.len() > 128 {
-        return answer.word("no 1 to 128 blocks");
+        return args.refuse("no 1 to 128 blocks");
     }
     eme.encrypt(&tweak, changed);
     answer.bytes(changed.as_flattened());

@@ -1,5 +1,7 @@
 //! Calls of vault_names.
 
+ghost use Rattle.std.specs.Prelude.{◌≤◌};
+
 use crate::answer::Answer;
 use crate::arguments::Arguments;
 use crate::configurations::keys;
@@ -56,6 +58,16 @@ fn cm_dir(args: &Arguments) -> Dir<'_> {
 }
 
 impl Dir<'_> {
+    // The place of the first argument behind those of the directory.
+    fn behind(&self) -> usize
+        ensures { result ≤ 3 }
+    {
+        match self {
+            Dir::Go(..) => 2,
+            Dir::Cm(..) => 3,
+        }
+    }
+
     // How a name is stored.
     fn stored(&self, alloc: Global, name: &Name) -> Result<Stored, AllocError> {
         match self {
@@ -88,9 +100,9 @@ impl Dir<'_> {
     }
 }
 
-// The name whose text the last argument writes.
+// The name whose text an argument writes.
 fn read(dir: &Dir, args: &Arguments, answer: &mut Answer) {
-    let text = args.text(args.count().saturating_sub(1));
+    let text = args.text(dir.behind());
     match dir.name_of(answer.alloc(), text) {
         Ok(name) => answer.bytes(name.bytes()),
         Err(NameFault::NotStored) => answer.word("not stored"),
@@ -98,9 +110,9 @@ fn read(dir: &Dir, args: &Arguments, answer: &mut Answer) {
     }
 }
 
-// The entry's name that stores the last argument. Nothing stands behind it, and it is read back.
+// The entry's name that stores an argument. Nothing stands behind it, and it is read back.
 fn short(dir: &Dir, args: &Arguments, answer: &mut Answer) {
-    let Some(name) = name(args, args.count().saturating_sub(1), answer) else {
+    let Some(name) = name(args, dir.behind(), answer) else {
         return;
     };
     let alloc = answer.alloc();
@@ -113,13 +125,12 @@ fn short(dir: &Dir, args: &Arguments, answer: &mut Answer) {
     answer.word(stored.name.as_str());
 }
 
-// The entry's name that stores the argument before the last, whose text the last one writes. The text is read back, and has this entry.
+// The entry's name that stores an argument, whose text the next one writes. The text is read back, and has this entry.
 fn long(dir: &Dir, args: &Arguments, answer: &mut Answer) {
-    let last = args.count().saturating_sub(1);
-    let Some(name) = name(args, last.saturating_sub(1), answer) else {
+    let (alloc, text) = (answer.alloc(), args.text(dir.behind() + 1));
+    let Some(name) = name(args, dir.behind(), answer) else {
         return;
     };
-    let (alloc, text) = (answer.alloc(), args.text(last));
     answer.unless(dir.is_stored_as(alloc, text, &name), "it isn't read back:");
     match dir.stored(alloc, &name) {
         Ok(stored) => long_told(&stored, text, dir.entry_of(alloc, text), answer),

@@ -73,11 +73,15 @@ fn nfc(args: &Arguments, answer: &mut Answer) {
     }
 }
 
-// The rule that a word names.
-fn rule(word: &str) -> NameMap {
-    match word {
+// The rule that the first argument names.
+fn rule(args: &Arguments) -> NameMap {
+    match args.word(0) {
+        "same" => NameMap::Same,
         "nfc" => NameMap::Nfc,
-        _ => NameMap::Same,
+        _ => {
+            args.refuse("no such rule for names");
+            NameMap::Same
+        }
     }
 }
 
@@ -90,10 +94,10 @@ fn refused(fault: NameNewFault, answer: &mut Answer) {
 
 // What a rule makes of a name, which it makes of that again.
 fn mapped(args: &Arguments, answer: &mut Answer) {
+    let names = rule(args);
     let Some(name) = name(args, 1, answer) else {
         return;
     };
-    let names = rule(args.word(0));
     match names.apply(answer.alloc(), &name) {
         Ok(new) => mapped_again(names, &new, answer),
         Err(fault) => refused(fault, answer),
@@ -111,9 +115,9 @@ fn mapped_again(names: NameMap, new: &Name, answer: &mut Answer) {
 // The shown form of what a rule makes of a path.
 fn mapped_path(args: &Arguments, answer: &mut Answer) {
     let Some(path) = path(answer.alloc(), args.text(1)) else {
-        return answer.word("no path");
+        return args.refuse("no path");
     };
-    match path.mapped(rule(args.word(0))) {
+    match path.mapped(rule(args)) {
         Ok(new) => answer.made(new.shown()),
         Err(fault) => refused(fault, answer),
     }
@@ -152,12 +156,12 @@ fn path(alloc: Global, text: &str) -> Option<PlainPath> {
 }
 
 fn order(args: &Arguments, answer: &mut Answer) {
-    answer.word(match compared(answer.alloc(), args.text(0), args.text(1)) {
-        Some(Ordering::Less) => "less",
-        Some(Ordering::Equal) => "equal",
-        Some(Ordering::Greater) => "greater",
-        None => "no two paths, each that of its names",
-    });
+    match compared(answer.alloc(), args.text(0), args.text(1)) {
+        Some(Ordering::Less) => answer.word("less"),
+        Some(Ordering::Equal) => answer.word("equal"),
+        Some(Ordering::Greater) => answer.word("greater"),
+        None => args.refuse("no two paths, each that of its names"),
+    }
 }
 
 fn compared(alloc: Global, left: &str, right: &str) -> Option<Ordering> {

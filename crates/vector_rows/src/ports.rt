@@ -12,6 +12,7 @@ use rand_core::Rng;
 use rand_core::utils::{NextWord, fill_bytes_via_u32, next_u64_via_u32};
 use row_words::number;
 use std::marker::Model;
+use std::ops::Range;
 
 /// Makes a call of this module, and says whether there is one of this name. The numbers of calls that fail come before what is called:
 /// the sizes that are asked for, or the pieces that are put.
@@ -49,14 +50,18 @@ fn held(args: &Arguments, place: usize, answer: &mut Answer) -> Vec<u8> {
     }
 }
 
-// The numbers that the second argument writes, with commas between them.
+// The numbers that the second argument writes, with commas between them: each that of a call on one of the arguments behind it.
 fn fails(args: &Arguments, answer: &mut Answer) -> Vec<u64> {
+    let calls = args.count().saturating_sub(2) as u64;
     let mut numbers = Vec::new(answer.alloc());
     for part in args.word(1).split(',') {
-        if let Some(number) = number(part) {
-            if numbers.push(number).is_err() {
-                answer.lacks();
+        match number(part) {
+            Some(number) if 1 <= number && number <= calls => {
+                if numbers.push(number).is_err() {
+                    answer.lacks();
+                }
             }
+            _ => args.refuse("a failing call that isn't made"),
         }
     }
     numbers
@@ -71,14 +76,22 @@ fn add(bytes: Option<&[u8]>, answer: &mut Answer) {
     }
 }
 
-// How many bytes are asked for at once at most.
+// The places of the arguments from one on, of which there are some.
+fn places(first: usize, args: &Arguments) -> Range<usize> {
+    if first >= args.count() {
+        args.refuse("no calls");
+    }
+    first..args.count()
+}
+
+// How many bytes are asked for at once at most, and how much room there is at most.
 const MOST: usize = 1_000;
 
 // What a source gives where the arguments from a place on ask for so many bytes.
 fn taken<S: Source>(source: &mut S, first: usize, args: &Arguments, answer: &mut Answer) {
     let mut room = [0; MOST];
-    for place in first..args.count() {
-        let out = &mut room[..args.few(place).min(MOST)];
+    for place in places(first, args) {
+        let out = &mut room[..args.up_to(place, MOST)];
         let count = source.take(out).ok();
         add(taken_bytes(out, count), answer);
     }
@@ -90,7 +103,7 @@ fn taken_bytes(out: &[u8], count: Option<usize>) -> Option<&[u8]> {
 
 // What a sink answers to the pieces that the arguments from a place on write.
 fn put<S: Sink>(sink: &mut S, first: usize, args: &Arguments, answer: &mut Answer) {
-    for place in first..args.count() {
+    for place in places(first, args) {
         answer.word(match sink.put(args.bytes(place)) {
             Ok(()) => "ok",
             Err(_) => "fault",
@@ -101,7 +114,7 @@ fn put<S: Sink>(sink: &mut S, first: usize, args: &Arguments, answer: &mut Answe
 // What a sink in memory with so much room answers to pieces, and what it took.
 fn mem_sink(args: &Arguments, answer: &mut Answer) {
     let fails = fails(args, answer);
-    let Ok(mut sink) = MemSink::new(answer.alloc(), args.few(0), fails) else {
+    let Ok(mut sink) = MemSink::new(answer.alloc(), args.up_to(0, MOST), fails) else {
         return answer.lacks();
     };
     put(&mut sink, 2, args, answer);
@@ -112,8 +125,8 @@ fn mem_sink(args: &Arguments, answer: &mut Answer) {
 // What a random source gives where the arguments from a place on draw so many bytes.
 fn drawn<R: Randoms>(randoms: &mut R, first: usize, args: &Arguments, answer: &mut Answer) {
     let mut room = [0; MOST];
-    for place in first..args.count() {
-        let out = &mut room[..args.few(place).min(MOST)];
+    for place in places(first, args) {
+        let out = &mut room[..args.up_to(place, MOST)];
         match randoms.fill(out) {
             Ok(()) => add(Some(out), answer),
             Err(_) => add(None, answer),

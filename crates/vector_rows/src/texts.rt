@@ -92,12 +92,15 @@ fn bytes_equal(args: &Arguments, answer: &mut Answer) {
     answer.yes_or_no(left == right);
 }
 
-// The alphabet that an argument names: `standard`, or else that of addresses.
+// The alphabet that an argument names: `standard`, or `url` for that of addresses.
 fn alphabet(args: &Arguments) -> Alphabet {
-    if args.word(0) == "standard" {
-        Alphabet::Standard
-    } else {
-        Alphabet::UrlSafe
+    match args.word(0) {
+        "standard" => Alphabet::Standard,
+        "url" => Alphabet::UrlSafe,
+        _ => {
+            args.refuse("no such alphabet");
+            Alphabet::Standard
+        }
     }
 }
 
@@ -111,12 +114,14 @@ fn decoded(args: &Arguments, answer: &mut Answer) {
 
 // Makes a call that reads a JSON object, which is the last argument.
 fn json_answer(name: &str, args: &Arguments, answer: &mut Answer) -> bool {
-    if !name.starts_with("json-") {
-        return false;
-    }
-    let last = args.count().saturating_sub(1);
+    let last = match name {
+        "json-object" => 0,
+        "json-number" | "json-text" | "json-texts" | "json-object-at" => 1,
+        "json-number-in" | "json-bytes" => 2,
+        _ => return false,
+    };
     match json_object(answer.alloc(), args.bytes(last)) {
-        Ok(Some(object)) => return object_answer(name, args, &object, answer),
+        Ok(Some(object)) => object_answer(name, args, &object, answer),
         Ok(None) => answer.word("no"),
         Err(_) => answer.lacks(),
     }
@@ -124,35 +129,34 @@ fn json_answer(name: &str, args: &Arguments, answer: &mut Answer) -> bool {
 }
 
 // Makes a call on an object that was read.
-fn object_answer(name: &str, args: &Arguments, object: &Value, answer: &mut Answer) -> bool {
+fn object_answer(name: &str, args: &Arguments, object: &Value, answer: &mut Answer) {
     match told(name, args, object, answer) {
-        Ok(is_known) => return is_known,
+        Ok(()) => {}
         Err(FieldFault::Wrong(name)) => {
             answer.word("field");
             answer.shows(&name);
         }
         Err(FieldFault::NoMemory) => answer.lacks(),
     }
-    true
 }
 
-// Tells what a call finds in an object, and whether there is a call of this name.
+// Tells what a call finds in an object.
 fn told(
     name: &str,
     args: &Arguments,
     object: &Value,
     answer: &mut Answer,
-) -> Result<bool, FieldFault> {
+) -> Result<(), FieldFault> {
     let (alloc, field) = (answer.alloc(), args.word(0));
     match name {
-        "json-object" => answer.word("yes"),
         "json-number" => {
             let number = number_at(alloc, field, object)?;
             answer.shows(&number);
         }
         "json-number-in" => {
+            let field_in = args.word(1);
             let inner = object_at(alloc, field, object)?;
-            let number = number_at(alloc, args.word(1), inner)?;
+            let number = number_at(alloc, field_in, inner)?;
             answer.shows(&number);
         }
         "json-text" => {
@@ -168,9 +172,9 @@ fn told(
             answer.word("object");
         }
         "json-texts" => texts(field, object, answer)?,
-        _ => return Ok(false),
+        _ => answer.word("yes"),
     }
-    Ok(true)
+    Ok(())
 }
 
 // The texts of an array, with a blank between each two.

@@ -86,7 +86,7 @@ print("end")
 
 
 def cryptomator(root, combo, doc):
-    """A vault whose paths have names, and which belongs to one directory with a short name and one with a long name."""
+    """A vault with one directory of a short name and one of a long name, whose paths have names: of `t` only that which rows use."""
     cm = Cryptomator(b"key of 32 bytes for the contents", b"key of 32 bytes for names and id", 36, combo)
     tree = CryptomatorTree(cm)
     top = tree.root(cm.configuration(b"secret", 2, 1))
@@ -96,6 +96,11 @@ def cryptomator(root, combo, doc):
     long_file = tree.file(b"", b"long_file", b"long")
     long_dir = tree.directory(b"", b"long_dirs", b"2222")
     begin(root, doc, tree.folders, tree.files)
+    if root == "t":
+        print("# the file `x` in the directory `a`")
+        name("t.x", f"t/{x}")
+        print("end")
+        return
     print("# the content folder of the root; the directory `a`, whose id is 1111, its content folder, and the file `x` in it; the file `f`")
     name(f"{root}.top", f"{root}/{top}")
     name(f"{root}.a", f"{root}/{a}")

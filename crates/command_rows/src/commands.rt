@@ -13,11 +13,7 @@ impl Player for Commands {
     fn play(stage: &mut Stage, verb: &str, words: &str) {
         match verb {
             "run" => run_words(stage, words),
-            "else" => {
-                if stage.status != 0 {
-                    run_words(stage, words);
-                }
-            }
+            "else" => run_else(stage, words),
             "demo" => demo(stage, words),
             "mkdir" | "put" => make_item(stage, verb, words),
             "vault" | "item" | "inside" | "tree" => place(stage, verb, words),
@@ -59,10 +55,23 @@ fn run_words(stage: &mut Stage, text: &str) {
     stage.say_run(status, handed.out.sink.bytes(), handed.err.sink.bytes());
 }
 
+// Runs words where the last run's status isn't 0.
+fn run_else(stage: &mut Stage, text: &str) {
+    if text.is_empty() {
+        return stage.stop(Stop::Line);
+    }
+    if stage.status != 0 {
+        run_words(stage, text);
+    }
+}
+
 // Runs a demonstration of `SEED COUNT` in the folder.
 fn demo(stage: &mut Stage, words: &str) {
     let (seed, count) = cut(words);
-    let (seed, count) = (stage.number(seed), stage.number(count).min(2_000));
+    let (seed, count) = (stage.number(seed), stage.count(count, 2_000));
+    if count == 0 {
+        return;
+    }
     let Ok(mut handed) = stage.hand() else {
         return stage.stop(Stop::NoMemory);
     };
@@ -85,6 +94,8 @@ fn make_item(stage: &mut Stage, verb: &str, words: &str) {
     let (path, bytes) = cut(words);
     if verb == "put" {
         stage.input = stage.bytes(bytes);
+    } else {
+        stage.no_more(bytes);
     }
     match format!(in alloc; "{verb} {vault} {path} --pass p --work {WORK}") {
         Ok(words) => run_words(stage, words.as_str()),

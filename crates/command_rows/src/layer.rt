@@ -1,6 +1,7 @@
 //! Lines that call a layer below the commands, or the folder itself.
 use crate::moving::call_moving;
 use row_layers::folders::{deep, let_fail, many};
+use row_layers::places::{drop_said, need_done};
 use row_layers::{
     call_demonstration, call_folder, call_journal, call_mapping, call_matching, call_paths,
     call_reading, call_staging, call_walking, call_work, call_writing,
@@ -22,13 +23,6 @@ pub fn drop_done(stage: &mut Stage) {
     if stage.status == 0 {
         drop_said(stage);
         stage.done("done");
-    }
-}
-
-// Drops what was said.
-fn drop_said(stage: &mut Stage) {
-    if stage.said.take().is_err() {
-        stage.stop(Stop::NoMemory);
     }
 }
 
@@ -57,6 +51,10 @@ pub fn layer(stage: &mut Stage, verb: &str, words: &str) {
         }
         "fault" => first_word(stage, call, rest),
         "quiet" => {
+            call_layer(stage, call, rest);
+            need_done(stage);
+        }
+        "whatever" => {
             call_layer(stage, call, rest);
             drop_said(stage);
         }

@@ -31,17 +31,19 @@ fn play_file(rt: &HostRuntime, book: &mut Book, name: &str) -> io::Result<()> {
     for line in text.as_str().lines() {
         play_line(rt, book, line)?;
     }
-    let said = book.close::<Commands>()?;
+    let said = book.close::<Commands>(text.as_str())?;
     print!(rt; "{said}")
 }
 
-// Plays the rows of each file, and says whether all are right.
+// Plays the rows of each file, and says whether all are right. What is a surprise is named again beside.
 fn play_files(rt: &HostRuntime) -> io::Result<bool> {
     let mut book = Book::new(rt.alloc());
     for name in env::args(rt)?.skip(1) {
         play_file(rt, &mut book, name.as_str())?;
     }
-    let wrong = book.wrong();
-    eprint!(rt; "{wrong}")?;
-    Ok(wrong.is_empty())
+    let said = book.finish()?;
+    print!(rt; "{said}")?;
+    let surprises = book.surprises();
+    eprint!(rt; "{surprises}")?;
+    Ok(book.is_right())
 }

@@ -12,7 +12,7 @@ use row_layers::faults::{
 };
 use row_layers::journals::parsed;
 use row_layers::places::PASSPHRASE;
-use row_stage::{Handed, Stage};
+use row_stage::{Handed, Stage, Stop};
 use row_words::{Said, cut};
 use tree_match::Where;
 use vault_read::LoadFault;
@@ -122,15 +122,22 @@ fn say_retired(stage: &mut Stage, answer: Result<Retired, RetireFault>) {
     }
 }
 
+// The rule for names that a word behind the places says.
+fn rule_of(word: &str) -> Option<NameMap> {
+    match word {
+        "" => Some(NameMap::Same),
+        "nfc" => Some(NameMap::Nfc),
+        _ => None,
+    }
+}
+
 // Begins to move: `FROM TO WORK`, and `nfc` behind them where names come to form C.
 fn call_begin(stage: &mut Stage, words: &str, handed: &mut Handed) {
     let (from, words) = cut(words);
     let (to, words) = cut(words);
     let (work, rule) = cut(words);
-    let names = if rule == "nfc" {
-        NameMap::Nfc
-    } else {
-        NameMap::Same
+    let Some(names) = rule_of(rule) else {
+        return stage.stop(Stop::Line);
     };
     let work = stage.path(work);
     if let Some(from) = parsed(stage, from) {
@@ -157,7 +164,10 @@ fn retired(stage: &mut Stage, work: &FPath) -> Result<Retired, RetireFault> {
 fn call_go_on(stage: &mut Stage, words: &str, handed: &mut Handed) {
     let (_, places) = cut(words);
     let (_, places) = cut(places);
-    let (work, _) = cut(places);
+    let (work, rule) = cut(places);
+    if rule_of(rule).is_none() {
+        return stage.stop(Stop::Line);
+    }
     let work = stage.path(work);
     match resumed(stage, &work, handed) {
         Err(MoveFault::Journal(JournalFault::NoJournal)) => call_begin(stage, words, handed),

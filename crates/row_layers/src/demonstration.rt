@@ -3,12 +3,15 @@ use crate::reading::node_letter;
 use demo_core::items::{is_directory, path_of, size_of};
 use demo_core::{make_first, random_of, totals_of};
 use plain_tree::NodeKind;
-use row_stage::Stage;
+use row_stage::{Stage, Stop};
 use row_words::cut;
 
 // Says an item, and the size that its file has or would have.
 fn demo_item(stage: &mut Stage, seed: u64, number: u64) {
-    let number = number.min(9_999) as u32;
+    if number > 9_999 {
+        return stage.stop(Stop::Line);
+    }
+    let number = number as u32;
     stage.said.word(node_letter(if is_directory(number) {
         NodeKind::Dir
     } else {
@@ -23,7 +26,10 @@ fn demo_item(stage: &mut Stage, seed: u64, number: u64) {
 }
 
 fn demo_totals(stage: &mut Stage, seed: u64, count: u64) {
-    let totals = totals_of(seed, count.min(10_000) as u32);
+    if count > 10_000 {
+        return stage.stop(Stop::Line);
+    }
+    let totals = totals_of(seed, count as u32);
     stage.said.shows(&totals.directories);
     stage.said.shows(&totals.files);
     stage.said.shows(&totals.bytes);
@@ -32,7 +38,10 @@ fn demo_totals(stage: &mut Stage, seed: u64, count: u64) {
 
 // Makes the first vault of a demonstration.
 fn demo_first(stage: &mut Stage, seed: u64, count: u64) {
-    let count = count.min(2_000) as u32;
+    if count > 2_000 {
+        return stage.stop(Stop::Line);
+    }
+    let count = count as u32;
     let mut random = random_of(seed);
     match make_first(stage.alloc, &mut stage.folder, seed, count, &mut random).ok() {
         Some(()) => stage.done("done"),

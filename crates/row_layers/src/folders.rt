@@ -5,21 +5,25 @@ use folder_model::{FPath, Folder, FolderFault};
 use row_stage::{Stage, Stop};
 use row_words::cut;
 
+// How many directories or files a line makes at most.
+const MOST_MADE: u64 = 10_000;
+
 /// Lets later calls of the folder fail: `fail_at CALL ..`, `fail_append CALL ADDED` an append that adds so many bytes, and
 /// `stop EVENT ..` the changing call of that number and all behind it.
 pub fn let_fail(stage: &mut Stage, verb: &str, words: &str) {
     let (call, added) = cut(words);
     if verb == "fail_append" {
-        let (call, added) = (stage.number(call), stage.number(added));
+        let (call, added) = (stage.count(call, u64::MAX), stage.number(added));
         let kept = stage.folder.fail_append_at(call, added);
         return stage.whole(kept);
     }
     for word in words.split(' ') {
-        let number = stage.number(word);
         if verb == "stop" {
-            stage.folder.stop_at(number);
+            let event = stage.number(word);
+            stage.folder.stop_at(event);
         } else {
-            let kept = stage.folder.fail_at(number);
+            let call = stage.count(word, u64::MAX);
+            let kept = stage.folder.fail_at(call);
             stage.whole(kept);
         }
     }
@@ -33,14 +37,16 @@ pub fn say_folder(stage: &mut Stage, answer: Result<(), FolderFault>) {
     }
 }
 
-fn folder_kind(stage: &mut Stage, at: &FPath) {
+fn folder_kind(stage: &mut Stage, at: &FPath, rest: &str) {
+    stage.no_more(rest);
     match stage.folder.kind(at) {
         Ok(kind) => stage.done(kind_word(kind)),
         Err(fault) => stage.failed(folder_word(fault)),
     }
 }
 
-fn folder_list(stage: &mut Stage, at: &FPath) {
+fn folder_list(stage: &mut Stage, at: &FPath, rest: &str) {
+    stage.no_more(rest);
     match stage.folder.list(at) {
         Ok(entries) => {
             for entry in &entries {
@@ -57,7 +63,7 @@ fn folder_list(stage: &mut Stage, at: &FPath) {
 // Reads from a place on into so many bytes: `START COUNT`.
 fn folder_read(stage: &mut Stage, at: &FPath, words: &str) {
     let (start, count) = cut(words);
-    let (start, count) = (stage.number(start), stage.number(count).min(4_096) as usize);
+    let (start, count) = (stage.number(start), stage.count(count, 4_096) as usize);
     let mut out = [0; 4_096];
     match stage.folder.read(at, start, &mut out[..count]) {
         Ok(count) => {
@@ -70,6 +76,9 @@ fn folder_read(stage: &mut Stage, at: &FPath, words: &str) {
 
 // Calls that change what stands at a path.
 fn change_folder(stage: &mut Stage, verb: &str, at: &FPath, rest: &str) {
+    if verb != "append" && verb != "rename" {
+        stage.no_more(rest);
+    }
     let answer = match verb {
         "make_dir" => stage.folder.make_dir(at),
         "create" => stage.folder.create(at),
@@ -90,7 +99,8 @@ fn change_folder(stage: &mut Stage, verb: &str, at: &FPath, rest: &str) {
 }
 
 // Places an entry that is neither a file nor a directory, where it may stand.
-fn place_in_folder(stage: &mut Stage, at: &FPath) {
+fn place_in_folder(stage: &mut Stage, at: &FPath, rest: &str) {
+    stage.no_more(rest);
     match stage.folder.place(at) {
         Ok(true) => stage.done("done"),
         Ok(false) => stage.failed("Refused"),
@@ -152,16 +162,17 @@ fn count_files(stage: &mut Stage, dir: &FPath) -> u64 {
 /// `count_many DIRECTORIES`.
 pub fn many(stage: &mut Stage, verb: &str, words: &str) {
     let (dirs, files) = cut(words);
-    let dirs = stage.number(dirs);
+    let dirs = stage.count(dirs, MOST_MADE);
     let base = FPath::base(stage.alloc);
     if verb == "many" {
-        let files = stage.number(files);
+        let files = stage.count(files, MOST_MADE);
         for number in 0..dirs {
             let dir = numbered(stage, &base, number);
             fill_directory(stage, &dir, files);
         }
         return;
     }
+    stage.no_more(files);
     let mut count = 0u64;
     for number in 0..dirs {
         let dir = numbered(stage, &base, number);
@@ -176,7 +187,7 @@ pub fn deep(stage: &mut Stage, words: &str) {
     let (at, words) = cut(words);
     let (name, count) = cut(words);
     let mut here = stage.path(at);
-    for _ in 0..stage.number(count) {
+    for _ in 0..stage.count(count, MOST_MADE) {
         match here.child(name) {
             Ok(below) => here = below,
             Err(_) => return stage.stop(Stop::NoMemory),
@@ -190,16 +201,17 @@ pub fn deep(stage: &mut Stage, words: &str) {
 pub fn call_folder(stage: &mut Stage, words: &str) {
     let (verb, words) = cut(words);
     if verb == "settle" {
+        stage.no_more(words);
         let answer = stage.folder.settle();
         return say_folder(stage, answer);
     }
     let (at, rest) = cut(words);
     let at = stage.path(at);
     match verb {
-        "kind" => folder_kind(stage, &at),
-        "list" => folder_list(stage, &at),
+        "kind" => folder_kind(stage, &at, rest),
+        "list" => folder_list(stage, &at, rest),
         "read" => folder_read(stage, &at, rest),
-        "place" => place_in_folder(stage, &at),
+        "place" => place_in_folder(stage, &at, rest),
         _ => change_folder(stage, verb, &at, rest),
     }
 }

@@ -61,6 +61,14 @@ fn digest(stage: &mut Stage, word: &str) -> Option<[u8; 32]> {
     digest
 }
 
+fn phase_named(word: &str) -> Option<Phase> {
+    match word {
+        "building" => Some(Phase::Building),
+        "done" => Some(Phase::Done),
+        _ => None,
+    }
+}
+
 // Writes a journal: `PHASE NAMES FROM TO ITEMS DIGEST`.
 fn write_journal(stage: &mut Stage, work: &FPath, words: &str) {
     let (phase, words) = cut(words);
@@ -68,7 +76,13 @@ fn write_journal(stage: &mut Stage, work: &FPath, words: &str) {
     let (from, words) = cut(words);
     let (to, words) = cut(words);
     let (items, plan) = cut(words);
-    let items = stage.number(items).min(200_000);
+    let items = stage.number(items);
+    let (Some(phase), Some(names)) = (phase_named(phase), rule_named(names)) else {
+        return stage.stop(Stop::Line);
+    };
+    if items > 200_000 {
+        return stage.stop(Stop::Line);
+    }
     let Some(plan) = digest(stage, plan) else {
         return;
     };
@@ -79,12 +93,8 @@ fn write_journal(stage: &mut Stage, work: &FPath, words: &str) {
         return;
     };
     let journal = Journal {
-        phase: if phase == "done" {
-            Phase::Done
-        } else {
-            Phase::Building
-        },
-        names: rule_named(names),
+        phase,
+        names,
         source,
         target,
         items,
@@ -112,9 +122,13 @@ pub fn call_journal(stage: &mut Stage, words: &str) {
     let (verb, words) = cut(words);
     let (work, words) = cut(words);
     let work = stage.path(work);
+    if verb == "write" {
+        return write_journal(stage, &work, words);
+    }
+    stage.no_more(words);
     match verb {
         "read" => read_journal(stage, &work),
-        "write" => write_journal(stage, &work, words),
-        _ => finish_journal(stage, &work),
+        "finish" => finish_journal(stage, &work),
+        _ => stage.stop(Stop::Line),
     }
 }

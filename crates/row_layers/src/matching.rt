@@ -4,22 +4,22 @@ use crate::places::{plain_path, vault_named};
 use crate::walking::say_plan;
 use folder_model::FPath;
 use plain_tree::{NameMap, NodeKind};
-use row_stage::Stage;
+use row_stage::{Stage, Stop};
 use row_words::cut;
 use tree_match::{How, Match, holds_all, map_plan};
 use vault_read::Vault;
 use vault_walk::{Plan, PlanItem, PlanItems};
 
 /// The rule for names that a word names.
-pub fn rule_named(word: &str) -> NameMap {
-    if word == "nfc" {
-        NameMap::Nfc
-    } else {
-        NameMap::Same
+pub fn rule_named(word: &str) -> Option<NameMap> {
+    match word {
+        "same" => Some(NameMap::Same),
+        "nfc" => Some(NameMap::Nfc),
+        _ => None,
     }
 }
 
-// An item: `PATH=AT` for a file that is stored there, `PATH/` for a directory.
+// An item: `PATH=AT` for a file that is stored there, `PATH` for one whose content isn't looked at, `PATH/` for a directory.
 fn plan_item(stage: &mut Stage, word: &str) -> PlanItem {
     if let Some((path, at)) = word.split_once('=') {
         return PlanItem {
@@ -27,6 +27,9 @@ fn plan_item(stage: &mut Stage, word: &str) -> PlanItem {
             node: NodeKind::File,
             at: stage.path(at),
         };
+    }
+    if word.is_empty() {
+        stage.stop(Stop::Line);
     }
     let (path, node) = match word.strip_suffix("/") {
         Some(path) => (path, NodeKind::Dir),
@@ -78,8 +81,11 @@ fn say_match(stage: &mut Stage, answer: &Match) {
 /// Plays `map_plan NAMES PLAN`: the items at what the rule makes of their paths.
 pub fn call_mapping(stage: &mut Stage, words: &str) {
     let (names, word) = cut(words);
+    let Some(rule) = rule_named(names) else {
+        return stage.stop(Stop::Line);
+    };
     let items = plan(stage, word);
-    match map_plan(stage.alloc, &items, rule_named(names)) {
+    match map_plan(stage.alloc, &items, rule) {
         Ok(mapped) => {
             say_plan(stage, &mapped);
             stage.done("done");

@@ -14,9 +14,10 @@ pub fn kind_word(kind: Kind) -> &'static str {
     }
 }
 
-// Says a path that was made; that of the base has no text.
+// Says a path that was made.
 fn say_path(stage: &mut Stage, at: Result<FPath, AllocError>) {
     match at {
+        Ok(at) if at.depth() == 0 => stage.said.word("the base"),
         Ok(at) => stage.said.made(at.text()),
         Err(_) => stage.said.lacks(),
     }
@@ -50,8 +51,10 @@ fn read_path(stage: &mut Stage, word: &str) {
 }
 
 // Says the parts of a path that was made from its parts.
-fn say_parts(stage: &mut Stage, word: &str) {
-    let path = stage.path(word);
+fn say_parts(stage: &mut Stage, path: &FPath) {
+    let Ok(path) = path.copy() else {
+        return stage.stop(Stop::NoMemory);
+    };
     let again = FPath::from_parts(path.into_parts());
     for part in again.parts() {
         stage.done(part.as_str());
@@ -60,31 +63,37 @@ fn say_parts(stage: &mut Stage, word: &str) {
 
 fn of_path(stage: &mut Stage, verb: &str, path: &FPath, other: &str) {
     match verb {
+        "child" => return say_path(stage, path.child(other)),
+        "is" => {
+            let is = path.is(&stage.path(other));
+            return say_truth(stage, is);
+        }
+        "starts_with" => {
+            let starts = path.starts_with(&stage.path(other));
+            return say_truth(stage, starts);
+        }
+        _ => stage.no_more(other),
+    }
+    match verb {
         "depth" => {
             stage.said.shows(&path.depth());
             stage.ended(0);
         }
         "parent" => say_path(stage, path.parent()),
         "copy" => say_path(stage, path.copy()),
-        "child" => say_path(stage, path.child(other)),
-        _ => {
-            let other = stage.path(other);
-            say_truth(
-                stage,
-                if verb == "is" {
-                    path.is(&other)
-                } else {
-                    path.starts_with(&other)
-                },
-            );
-        }
+        "parts" => say_parts(stage, path),
+        _ => stage.stop(Stop::Line),
     }
 }
 
 // Makes an entry: `NAME KIND`.
 fn make_entry(stage: &mut Stage, words: &str) {
     let (name, kind) = cut(words);
-    let kind = if kind == "dir" { Kind::Dir } else { Kind::File };
+    let kind = match kind {
+        "dir" => Kind::Dir,
+        "file" => Kind::File,
+        _ => return stage.stop(Stop::Line),
+    };
     match String::from_str(stage.alloc, name) {
         Ok(name) => {
             let entry = Entry::new(name, kind);
@@ -102,13 +111,10 @@ pub fn call_paths(stage: &mut Stage, verb: &str, words: &str) {
         return make_entry(stage, words);
     }
     let (verb, words) = cut(words);
-    let (path, other) = cut(words);
-    match verb {
-        "read" => read_path(stage, words),
-        "parts" => say_parts(stage, path),
-        _ => {
-            let path = stage.path(path);
-            of_path(stage, verb, &path, other);
-        }
+    if verb == "read" {
+        return read_path(stage, words);
     }
+    let (path, other) = cut(words);
+    let path = stage.path(path);
+    of_path(stage, verb, &path, other);
 }

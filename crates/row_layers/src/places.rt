@@ -53,10 +53,13 @@ pub fn vault_named(stage: &mut Stage, word: &str) -> Option<Vault> {
     let Some((keys, root)) = word.split_once(':') else {
         return vault_at(stage, word, PASSPHRASE);
     };
-    match keys_named(keys) {
-        Some(keys) => Some(Vault::new(stage.path(root), keys)),
-        None => vault_at(stage, root, b"demo"),
+    if let Some(keys) = keys_named(keys) {
+        return Some(Vault::new(stage.path(root), keys));
     }
+    if keys != "demo" {
+        stage.stop(Stop::Line);
+    }
+    vault_at(stage, root, b"demo")
 }
 
 /// The vault at a path.
@@ -71,6 +74,9 @@ pub fn vault_at(stage: &mut Stage, word: &str, pass: &[u8]) -> Option<Vault> {
 
 /// The plain path that a word writes.
 pub fn plain_path(stage: &mut Stage, word: &str) -> PlainPath {
+    if word.contains(' ') {
+        stage.stop(Stop::Line);
+    }
     match PlainPath::parse(stage.alloc, word) {
         Ok(path) => path,
         Err(_) => {
@@ -131,22 +137,23 @@ fn name_place(stage: &mut Stage, verb: &str, words: &str) {
 // Has a name stand for a path.
 fn name_path(stage: &mut Stage, name: &str, at: &FPath) {
     match at.text() {
-        Ok(text) => {
-            let set = stage.names.set(name, text.as_str());
-            stage.whole(set);
-        }
+        Ok(text) => stage.set_name(name, text.as_str()),
         Err(_) => stage.stop(Stop::NoMemory),
     }
 }
 
 /// What was done last has to have ended well. Nothing is said of it.
 pub fn need_done(stage: &mut Stage) {
-    let said = stage.said.take();
-    if said.is_err() {
-        stage.stop(Stop::NoMemory);
-    }
+    drop_said(stage);
     if stage.status != 0 {
-        stage.stop(Stop::Vault);
+        stage.stop(Stop::Undone);
+    }
+}
+
+/// Drops what was said.
+pub fn drop_said(stage: &mut Stage) {
+    if stage.said.take().is_err() {
+        stage.stop(Stop::NoMemory);
     }
 }
 
@@ -201,10 +208,11 @@ fn tree(stage: &mut Stage, word: &str) {
     push_items(stage, &vault, &PlainPath::root(stage.alloc), &mut left);
     for _ in 0..10_000u32 {
         let Some((at, node)) = left.pop() else {
-            break;
+            return;
         };
         say_item(stage, &vault, &at, node, &mut left);
     }
+    stage.stop(Stop::Line);
 }
 
 // Says an item, and adds what is in it.

@@ -46,7 +46,8 @@ fn say_removal(stage: &mut Stage, answer: Result<(), RemovalFault>) {
     }
 }
 
-fn call_remove(stage: &mut Stage, verb: &str, at: &FPath) {
+fn call_remove(stage: &mut Stage, verb: &str, at: &FPath, rest: &str) {
+    stage.no_more(rest);
     if verb == "remove_below" {
         let answer = remove_below(&mut stage.folder, at);
         return say_removal(stage, answer);
@@ -125,6 +126,7 @@ pub fn call_staging(stage: &mut Stage, verb: &str, words: &str) {
     let first = stage.path(first);
     match verb {
         "begin_folder" => {
+            stage.no_more(rest);
             let answer = begin_folder(&mut stage.folder, &first);
             say_folder(stage, answer);
         }
@@ -132,10 +134,13 @@ pub fn call_staging(stage: &mut Stage, verb: &str, words: &str) {
             let bytes = stage.bytes(rest);
             call_stage_file(stage, &first, bytes.as_slice());
         }
-        "remove_below" | "remove_all" => call_remove(stage, verb, &first),
+        "remove_below" | "remove_all" => call_remove(stage, verb, &first, rest),
         _ => {
             let (at, bytes) = cut(rest);
             let at = stage.path(at);
+            if verb == "publish_folder" || verb == "place_folder" {
+                stage.no_more(bytes);
+            }
             let bytes = stage.bytes(bytes);
             call_publish(stage, verb, &first, &at, bytes.as_slice());
         }

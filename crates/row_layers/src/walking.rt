@@ -100,6 +100,9 @@ pub fn call_walking(stage: &mut Stage, verb: &str, words: &str) {
         return call_digest(stage, words);
     }
     let (vault, lost) = cut(words);
+    if verb != "repair" {
+        stage.no_more(lost);
+    }
     let lost = stage.path(lost);
     if let Some(vault) = vault_named(stage, vault) {
         walk_in(stage, verb, &vault, &lost);

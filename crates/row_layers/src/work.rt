@@ -42,6 +42,9 @@ pub fn call_work(stage: &mut Stage, words: &str) {
     let (verb, words) = cut(words);
     let (at, old) = cut(words);
     let at = stage.path(at);
+    if verb != "look_again" || old != "old" {
+        stage.no_more(old);
+    }
     match verb {
         "look" => {
             let answer = Work::look(&mut stage.folder, &at);
@@ -55,9 +58,10 @@ pub fn call_work(stage: &mut Stage, words: &str) {
             let answer = Work::look_again(&mut stage.folder, &at, old == "old");
             say_looked(stage, answer);
         }
-        _ => {
+        "again" => {
             let answer = Work::again(&mut stage.folder, &at);
             say_work(stage, answer);
         }
+        _ => stage.stop(Stop::Line),
     }
 }

@@ -121,13 +121,14 @@ fn call_copy(stage: &mut Stage, vault: &Vault, staged: &FPath, from: &FPath, han
 // `write_content VAULT STAGED` and `copy_content VAULT STAGED FROM`.
 fn call_content(stage: &mut Stage, verb: &str, words: &str, handed: &mut Handed) {
     let (vault, words) = cut(words);
-    let (staged, from) = cut(words);
+    let (staged, from_word) = cut(words);
     let staged = stage.path(staged);
-    let from = stage.path(from);
+    let from = stage.path(from_word);
     let Some(vault) = vault_named(stage, vault) else {
         return;
     };
     if verb == "write_content" {
+        stage.no_more(from_word);
         call_write(stage, &vault, &staged, handed);
     } else {
         call_copy(stage, &vault, &staged, &from, handed);

@@ -1,5 +1,8 @@
 //! How one playing of a row goes: its lines are played, and what each says is compared with what is expected right behind it.
+ghost use Rattle.std.specs.Prelude.{◌≡◌, ◌≢◌, ◌↔◌, [], IsTrue, string_bytes};
+
 use crate::block::{for_words, placed};
+use crate::comparing::{compare, compare_groups, compare_missing, note};
 use crate::names::Names;
 use crate::player::Player;
 use crate::stage::{MOST_SHOWN, Stage};
@@ -74,27 +77,11 @@ fn push_lines(text: &mut String, mark: &str, lines: &str) -> Result<(), AllocErr
     Ok(())
 }
 
-// Notes what is wrong first.
-fn note_wrong(
-    wrong: &mut String,
-    last: &str,
-    expected: &str,
-    found: &str,
-) -> Result<(), AllocError> {
-    if !wrong.is_empty() {
-        return Ok(());
-    }
-    writeln!(
-        wrong,
-        "  at {last}\n  expected: {expected}\n  found: {found}"
-    )
-}
-
 impl Course {
     pub fn new(alloc: Global) -> Result<Course, AllocError> {
         Ok(Course {
             alloc,
-            stage: Stage::new(alloc, Names::new(alloc))?,
+            stage: Stage::new(alloc, Names::new(alloc), 0)?,
             values: String::new(alloc),
             turn: 0,
             said: String::new(alloc),
@@ -107,19 +94,33 @@ impl Course {
 
     // Begins anew.
     fn begin(&mut self, turn: u64) -> Result<(), AllocError> {
-        self.stage = Stage::new(self.alloc, Names::new(self.alloc))?;
+        self.stage = Stage::new(self.alloc, Names::new(self.alloc), turn)?;
         self.stage.names.add(self.values.as_str())?;
         self.turn = turn;
         self.said.clear();
         self.expected = 0;
         self.last.clear();
+        self.last.push_str("the beginning")?;
         self.kept.clear();
         Ok(())
     }
 
     /// Whether nothing is wrong so far.
-    pub fn is_right(&self) -> bool {
+    pub fn is_right(&self) -> bool
+        ensures { IsTrue result ↔ (string_bytes self.now.wrong ≡ []) }
+    {
         self.wrong.is_empty()
+    }
+
+    // Keeps what was noted, where nothing was before.
+    fn keep(&mut self, notes: String)
+        ensures right { string_bytes notes ≡ [] → string_bytes self.new.wrong ≡ string_bytes self.old.wrong }
+        ensures wrong { string_bytes notes ≢ [] → string_bytes self.new.wrong ≢ [] }
+        ensures stays { string_bytes self.old.wrong ≢ [] → string_bytes self.new.wrong ≢ [] }
+    {
+        if self.wrong.is_empty() {
+            self.wrong = notes;
+        }
     }
 
     /// Whether the call that fails in turn was made.
@@ -132,7 +133,8 @@ impl Course {
         if self.turn > 0 && self.expected == 0 {
             push_lines(&mut self.kept, "=", self.said.as_str())?;
         } else if let Some(line) = line_at(self.said.as_str(), self.expected) {
-            note_wrong(&mut self.wrong, self.last.as_str(), "no more lines", line)?;
+            let notes = note(self.alloc, self.last.as_str(), "no more lines", line)?;
+            self.keep(notes);
         }
         self.said.clear();
         self.expected = 0;
@@ -144,7 +146,7 @@ impl Course {
         self.end_line()?;
         self.last.clear();
         write!(self.last, "{at}: {text}")?;
-        match self.stage.play::<P>(text, self.turn) {
+        match self.stage.play::<P>(text) {
             Ok(said) => {
                 self.said = said;
                 Ok(())
@@ -155,28 +157,32 @@ impl Course {
     }
 
     fn is_wrong(&mut self, expected: &str, found: &str) -> Result<(), AllocError> {
-        note_wrong(&mut self.wrong, self.last.as_str(), expected, found)
+        let notes = note(self.alloc, self.last.as_str(), expected, found)?;
+        self.keep(notes);
+        Ok(())
     }
 
-    // Compares an expected line with the next one that was said.
-    fn expect(&mut self, at: &str, line: &str) -> Result<(), AllocError> {
-        let line = said_as(self.alloc, line)?;
+    // Compares an expected line with the next one that was said. What was wrong before stays wrong.
+    fn expect(&mut self, at: &str, line: &str) -> Result<(), AllocError>
+        ensures { string_bytes self.old.wrong ≢ [] → string_bytes self.new.wrong ≢ [] }
+    {
+        let (alloc, line) = (self.alloc, said_as(self.alloc, line)?);
         let (line, last) = (line.as_str(), self.last.as_str());
-        let found = line_at(self.said.as_str(), self.expected).unwrap_or("no more lines");
+        let notes = match line_at(self.said.as_str(), self.expected) {
+            Some(found) => compare(alloc, last, at, line, found)?,
+            None => compare_missing(alloc, last, at, line)?,
+        };
         self.expected = self.expected.saturating_add(1);
-        if found == line {
-            return Ok(());
-        }
-        writeln!(
-            self.wrong,
-            "  at {last}\n  expected: {line} ({at})\n  found: {found}"
-        )
+        self.keep(notes);
+        Ok(())
     }
 
     // Takes a line: plays it, or compares it with what was said where it begins with `=`.
     fn take<P: Player>(&mut self, at: &str, text: &str) -> Result<(), AllocError> {
         let Some(expanded) = self.stage.names.expand(text)? else {
-            return self.is_wrong("names that stand for something", text);
+            let notes = note(self.alloc, at, "names that stand for something", text)?;
+            self.keep(notes);
+            return Ok(());
         };
         let (verb, expected) = cut(expanded.as_str());
         if verb == "=" {
@@ -196,6 +202,9 @@ impl Course {
         }
         if self.is_right() {
             self.end_line()?;
+        }
+        if self.is_right() && self.stage.has_unmade() {
+            self.is_wrong("calls that are to fail", "fewer calls")?;
         }
         Ok(())
     }
@@ -217,25 +226,29 @@ impl Course {
     /// Notes what is wrong with the plays of a row as a whole.
     pub fn fail(&mut self, what: &str) -> Result<(), AllocError> {
         self.turn = 0;
-        self.wrong.push_str(what)
+        let notes = String::from_str(self.alloc, what)?;
+        self.keep(notes);
+        Ok(())
     }
 
-    /// Notes that the groups that a sweep comes to aren't those that are expected, or that too few calls fail.
-    pub fn fail_groups(
+    /// Compares the groups that a sweep comes to, in which so many calls failed, with those that are expected.
+    pub fn judge_groups(
         &mut self,
         expected: &str,
         found: &str,
+        least: u64,
         failed: u64,
     ) -> Result<(), AllocError> {
         self.turn = 0;
-        write!(
-            self.wrong,
-            "  expected:\n{expected}  found, where {failed} calls fail:\n{found}"
-        )
+        let notes = compare_groups(self.alloc, expected, found, least, failed)?;
+        self.keep(notes);
+        Ok(())
     }
 
     /// Adds what is wrong, where anything is.
-    pub fn tell(&self, text: &mut String) -> Result<(), AllocError> {
+    pub fn tell(&self, text: &mut String) -> Result<(), AllocError>
+        ensures { string_bytes self.now.wrong ≡ [] → text.new ≡ text.old }
+    {
         if self.is_right() {
             return Ok(());
         }

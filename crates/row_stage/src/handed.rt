@@ -11,6 +11,8 @@ use port_model::{
 pub struct Drawn {
     pub list: ListRandoms,
     pub calls: u64,
+    /// The last call that is to fail, 0 where none is.
+    pub last: u64,
 }
 
 impl Randoms for Drawn {
@@ -30,6 +32,8 @@ pub struct Pieces {
     pub source: MemSource,
     pub most: usize,
     pub calls: u64,
+    /// The last call that is to fail, 0 where none is.
+    pub last: u64,
 }
 
 impl Source for Pieces {
@@ -54,6 +58,8 @@ impl Source for Pieces {
 pub struct Taken {
     pub sink: MemSink,
     pub calls: u64,
+    /// The last call that is to fail, 0 where none is.
+    pub last: u64,
 }
 
 impl Sink for Taken {
@@ -74,4 +80,14 @@ pub struct Handed {
     pub input: Pieces,
     pub out: Taken,
     pub err: Taken,
+}
+
+impl Handed {
+    /// Whether fewer calls were made than those that are to fail.
+    pub fn has_unmade(&self) -> bool {
+        self.random.calls < self.random.last
+            || self.input.calls < self.input.last
+            || self.out.calls < self.out.last
+            || self.err.calls < self.err.last
+    }
 }

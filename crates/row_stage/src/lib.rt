@@ -4,12 +4,14 @@
 
 mod block;
 mod book;
+mod comparing;
 mod course;
 pub mod handed;
 mod looking;
 mod names;
 mod player;
 mod playing;
+mod reading;
 mod setting;
 pub mod stage;
 mod stand;

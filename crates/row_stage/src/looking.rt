@@ -20,10 +20,11 @@ impl Stage {
         self.push_below(&top, &mut left);
         for _ in 0..10_000u32 {
             let Some(at) = left.pop() else {
-                break;
+                return;
             };
             self.list_at(&at, &mut left);
         }
+        self.stop(Stop::Line);
     }
 
     // Says what stands at a path.
@@ -74,7 +75,7 @@ impl Stage {
 
     // Says how many bytes of its input the last run left, or that it left at least so many.
     fn left(&mut self, least: &str) {
-        if !least.is_empty() && self.number(least) <= self.left {
+        if !least.is_empty() && self.count(least, u64::MAX) <= self.left {
             self.said.word("at least");
             self.said.word(least);
         } else {

@@ -13,15 +13,15 @@ pub struct Names {
     lines: String,
 }
 
-// Whether braces round this text are meant as a name.
-fn is_name(inner: &str) -> bool {
+/// Whether braces round this text are meant as a name.
+pub fn is_name(inner: &str) -> bool {
     !inner.is_empty()
         && inner.chars().all(|mark| mark.is_ascii_alphanumeric() || ".-_*".contains(mark))
 }
 
-// Adds a text so many times, where that isn't too often.
+// Adds a text so many times, at least once, where that isn't too often.
 fn push_repeated(text: &mut String, word: &str, count: u64) -> Result<(), Stop> {
-    if count > MOST_TIMES {
+    if word.is_empty() || count == 0 || count > MOST_TIMES {
         return Err(Stop::Line);
     }
     for _ in 0..count {

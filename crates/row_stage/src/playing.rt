@@ -2,7 +2,8 @@
 use crate::block::{Block, BlockKind, for_words, placed};
 use crate::course::Course;
 use crate::player::Player;
-use row_words::{cut, number};
+use crate::reading::least_of;
+use row_words::cut;
 use std::alloc::{AllocError, Global};
 
 // The most calls that fail in turn, and the most plays of a row.
@@ -83,10 +84,7 @@ impl Found {
         write!(self.text, "without\n{kept}")?;
         let mut expected = String::new(alloc);
         push_groups(&mut expected, course, groups)?;
-        if expected.as_str() == self.text.as_str() && least(groups) <= failed {
-            return Ok(());
-        }
-        course.fail_groups(expected.as_str(), self.text.as_str(), failed)
+        course.judge_groups(expected.as_str(), self.text.as_str(), least(groups), failed)
     }
 
     // Plays a sweep with one failing call, and says whether that was its last play.
@@ -129,13 +127,9 @@ fn least(groups: &str) -> u64 {
     let mut least = 1;
     for line in groups.lines() {
         let (_, text) = placed(line);
-        let (verb, count) = cut(text);
+        let (verb, word) = cut(text);
         if verb == "without" {
-            least = match number(count) {
-                Some(count) => count,
-                None if count.is_empty() => 1,
-                None => u64::MAX,
-            };
+            least = least_of(word).unwrap_or(1);
         }
     }
     least

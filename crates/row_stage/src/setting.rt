@@ -4,6 +4,9 @@ use crate::stop::Stop;
 use folder_model::{FPath, Folder, Kind, Pick};
 use row_words::cut;
 
+// How many pieces of 4,096 bytes a file that is read has at most.
+const MOST_PIECES: u32 = 5_000;
+
 impl Stage {
     // Makes a file, whose bytes last.
     fn make_file(&mut self, at: &FPath, bytes: &[u8]) {
@@ -24,20 +27,21 @@ impl Stage {
     pub fn read(&mut self, at: &FPath) -> Vec<u8> {
         let mut bytes = Vec::new(self.alloc);
         let mut piece = [0; 4_096];
-        for _ in 0..1_000u32 {
+        for _ in 0..MOST_PIECES {
             let start = bytes.len() as u64;
             match self.folder.read(at, start, &mut piece) {
-                Ok(0) => break,
+                Ok(0) => return bytes,
                 Ok(count) => {
                     let added = bytes.extend_from_slice(&piece[..count]);
                     self.whole(added);
                 }
                 Err(fault) => {
                     self.stop(Stop::from(fault));
-                    break;
+                    return bytes;
                 }
             }
         }
+        self.stop(Stop::Line);
         bytes
     }
 
@@ -58,9 +62,12 @@ impl Stage {
         self.rewrite(at, bytes.as_slice());
     }
 
-    // Leaves the first bytes of a file.
+    // Leaves the first bytes of a file, fewer than it has.
     fn shorten(&mut self, at: &FPath, length: u64) {
         let mut bytes = self.read(at);
+        if length >= bytes.len() as u64 {
+            self.stop(Stop::Line);
+        }
         bytes.truncate(length as usize);
         self.rewrite(at, bytes.as_slice());
     }
@@ -90,6 +97,7 @@ impl Stage {
     fn change_at(&mut self, verb: &str, at: &FPath, rest: &str) {
         match verb {
             "dir" => {
+                self.no_more(rest);
                 let made = self.folder.make_dir(at);
                 self.well(made);
             }
@@ -99,9 +107,15 @@ impl Stage {
             }
             "more" => {
                 let bytes = self.bytes(rest);
+                if bytes.is_empty() {
+                    self.stop(Stop::Line);
+                }
                 self.grow_file(at, bytes.as_slice());
             }
-            "gone" => self.remove(at),
+            "gone" => {
+                self.no_more(rest);
+                self.remove(at);
+            }
             "move" => {
                 let to = self.path(rest);
                 let moved = self.folder.rename(at, &to);
@@ -127,6 +141,7 @@ impl Stage {
     pub fn change(&mut self, verb: &str, words: &str) {
         match verb {
             "settle" => {
+                self.no_more(words);
                 let settled = self.folder.settle();
                 self.well(settled);
             }

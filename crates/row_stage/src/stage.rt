@@ -1,6 +1,8 @@
 //! The stage on which a row is played: a folder in memory, what the next run is given, and what was said.
+ghost use Rattle.std.specs.Prelude.{◌≤◌};
+
 use crate::handed::{Drawn, Handed, Pieces, Taken};
-use crate::names::Names;
+use crate::names::{Names, is_name};
 use crate::player::Player;
 use crate::stand::Stand;
 use crate::stop::Stop;
@@ -13,6 +15,9 @@ use std::rc::RcStr;
 
 /// How many bytes are shown; of more their number and sum are.
 pub const MOST_SHOWN: usize = 1_000;
+
+// The last call that may be made to fail.
+const MOST_CALLS: u64 = 10_000;
 
 // How many bytes an output takes at most.
 const MOST_TAKEN: usize = 1_000_000;
@@ -69,6 +74,15 @@ impl Fails {
         }
     }
 
+    // Whether none fails.
+    fn are_none(&self) -> bool {
+        self.folder.is_empty()
+            && self.random.is_empty()
+            && self.input.is_empty()
+            && self.out.is_empty()
+            && self.err.is_empty()
+    }
+
     // The calls of an object that fail, of which none is left.
     fn take(&mut self, alloc: Global, object: Object) -> Vec<u64> {
         mem::replace(self.of(object), Vec::new(alloc))
@@ -120,7 +134,9 @@ pub struct Stage {
     /// How many bytes of it a call gives at most.
     pub most: u64,
     fails: Fails,
-    // Whose call fails in turn in the next run, and which.
+    // The call that fails in turn, 0 in a row.
+    turn: u64,
+    // Whose call that is in the next run, and which.
     due: Option<(Object, u64)>,
     // Whether that run made this call.
     hit: bool,
@@ -135,7 +151,8 @@ pub struct Stage {
 }
 
 impl Stage {
-    pub fn new(alloc: Global, names: Names) -> Result<Stage, AllocError> {
+    /// A stage on which `turn` is the call that fails in turn, 0 where none does.
+    pub fn new(alloc: Global, names: Names, turn: u64) -> Result<Stage, AllocError> {
         Ok(Stage {
             alloc,
             folder: Stand::new(alloc)?,
@@ -144,6 +161,7 @@ impl Stage {
             input: Vec::new(alloc),
             most: 1_000_000,
             fails: Fails::none(alloc),
+            turn,
             due: None,
             hit: false,
             status: 0,
@@ -156,6 +174,11 @@ impl Stage {
     /// Whether the call that fails in turn was made.
     pub fn is_hit(&self) -> bool {
         self.hit
+    }
+
+    /// Whether a row ends before a call that is to fail. In a sweep there are such calls.
+    pub fn has_unmade(&self) -> bool {
+        self.turn == 0 && (!self.fails.are_none() || self.folder.has_unmade())
     }
 
     // ---- what goes wrong
@@ -183,12 +206,23 @@ impl Stage {
 
     // ---- words
 
+    /// A line has no more words.
+    pub fn no_more(&mut self, words: &str) {
+        if !words.is_empty() {
+            self.stop(Stop::Line);
+        }
+    }
+
     /// The path that a word writes, of any length; the empty word is the base.
     pub fn path(&mut self, word: &str) -> FPath {
         if word.is_empty() {
             return FPath::base(self.alloc);
         }
-        if word.starts_with('/') || word.ends_with('/') || word.contains("//") {
+        if word.starts_with('/')
+            || word.ends_with('/')
+            || word.contains("//")
+            || word.contains(' ')
+        {
             self.stop(Stop::Line);
         }
         match parts_of(self.alloc, word) {
@@ -221,6 +255,18 @@ impl Stage {
         }
     }
 
+    /// The number that a word writes, from 1 on to the highest that may stand there.
+    pub fn count(&mut self, word: &str, most: u64) -> u64
+        ensures { result ≤ most }
+    {
+        let count = self.number(word);
+        if count == 0 || count > most {
+            self.stop(Stop::Line);
+            return 0;
+        }
+        count
+    }
+
     /// Says bytes on a line of their own.
     pub fn say_bytes(&mut self, bytes: &[u8]) {
         self.said.bytes(bytes, MOST_SHOWN);
@@ -230,33 +276,33 @@ impl Stage {
     // ---- calls that fail
 
     /// Lets a call of the next run fail: `OBJECT CALL`, or `OBJECT CALL COUNT` for so many in a row. `each` is the call that fails in turn.
-    fn fail(&mut self, words: &str, turn: u64) {
+    fn fail(&mut self, words: &str) {
         let (object, words) = cut(words);
         let (call, count) = cut(words);
         let Some(object) = object_named(object) else {
             return self.stop(Stop::Line);
         };
-        let call = self.call(object, call, turn);
+        let call = self.call(object, call);
         let count = if count.is_empty() {
             1
         } else {
-            self.number(count)
+            self.count(count, MOST_CALLS)
         };
-        for further in 0..count.min(10_000) {
+        for further in 0..count {
             self.fail_call(object, call.saturating_add(further));
         }
     }
 
-    /// The number of a call that is to fail, which is `each` for the call that fails in turn.
-    pub fn call(&mut self, object: Object, word: &str, turn: u64) -> u64 {
+    // The number of a call that is to fail, which is `each` for the call that fails in turn.
+    fn call(&mut self, object: Object, word: &str) -> u64 {
         if word != "each" {
-            return self.number(word);
+            return self.count(word, MOST_CALLS);
         }
-        if turn == 0 || self.due.is_some() {
+        if self.turn == 0 || self.due.is_some() {
             self.stop(Stop::Line);
         }
-        self.due = Some((object, turn));
-        turn
+        self.due = Some((object, self.turn));
+        self.turn
     }
 
     fn fail_call(&mut self, object: Object, call: u64) {
@@ -285,6 +331,7 @@ impl Stage {
     fn taken(&mut self, object: Object) -> Result<Taken, AllocError> {
         let fails = self.fails.take(self.alloc, object);
         Ok(Taken {
+            last: last_of(fails.as_slice()),
             sink: MemSink::new(self.alloc, MOST_TAKEN, fails)?,
             calls: 0,
         })
@@ -292,22 +339,27 @@ impl Stage {
 
     fn random(&mut self) -> Result<Drawn, AllocError> {
         let drawn = self.drawn.clone()?;
+        let fails = self.fails.take(self.alloc, Object::Random);
         Ok(Drawn {
-            list: ListRandoms::new(drawn, self.fails.take(self.alloc, Object::Random)),
+            last: last_of(fails.as_slice()),
+            list: ListRandoms::new(drawn, fails),
             calls: 0,
         })
     }
 
     fn pieces(&mut self) -> Pieces {
         let input = mem::replace(&mut self.input, Vec::new(self.alloc));
+        let fails = self.fails.take(self.alloc, Object::Input);
         Pieces {
-            source: MemSource::new(input, self.fails.take(self.alloc, Object::Input)),
+            last: last_of(fails.as_slice()),
+            source: MemSource::new(input, fails),
             most: self.most as usize,
             calls: 0,
         }
     }
 
-    /// Notes what a run left of its input, and whether the call that fails in turn was made.
+    /// Notes what a run left of its input, and whether the call that fails in turn was made. In a row all calls that are to fail have to be
+    /// made.
     pub fn take_back(&mut self, handed: &mut Handed) {
         if let Some((object, call)) = self.due {
             let made = match object {
@@ -320,7 +372,10 @@ impl Stage {
             self.hit = call <= made;
             self.due = None;
         }
-        self.folder.end_run(self.alloc);
+        let is_whole = self.folder.end_run(self.alloc) && !handed.has_unmade();
+        if self.turn == 0 && !is_whole {
+            self.stop(Stop::Unmade);
+        }
         self.count_left(&mut handed.input);
     }
 
@@ -374,12 +429,11 @@ impl Stage {
 
     // ---- lines
 
-    /// Plays a line, in which names were replaced, and gives the lines that it says. `turn` is the call that fails in turn, 0 where none
-    /// does. What the stage doesn't know is the player's.
-    pub fn play<P: Player>(&mut self, line: &str, turn: u64) -> Result<String, Stop> {
+    /// Plays a line, in which names were replaced, and gives the lines that it says. What the stage doesn't know is the player's.
+    pub fn play<P: Player>(&mut self, line: &str) -> Result<String, Stop> {
         let (verb, words) = cut(line);
         match Part::of(verb) {
-            Part::Fail => self.fail(words, turn),
+            Part::Fail => self.fail(words),
             Part::Change => self.change(verb, words),
             Part::Look => self.look(verb, words),
             Part::Give => self.give(verb, words),
@@ -396,11 +450,10 @@ impl Stage {
         match verb {
             "name" => {
                 let (name, text) = cut(words);
-                let set = self.names.set(name, text);
-                self.whole(set);
+                self.set_name(name, text);
             }
             "draw" => self.drawn = self.bytes(words),
-            "piece" => self.most = self.number(words),
+            "piece" => self.most = self.count(words, MOST_TAKEN as u64),
             _ => {
                 let bytes = if verb == "take" {
                     let at = self.path(words);
@@ -408,11 +461,37 @@ impl Stage {
                 } else {
                     self.bytes(words)
                 };
-                let added = self.input.extend_from_slice(bytes.as_slice());
-                self.whole(added);
+                self.give_input(bytes.as_slice());
             }
         }
     }
+
+    /// Has a name stand for a text from now on.
+    pub fn set_name(&mut self, name: &str, text: &str) {
+        if !is_name(name) {
+            return self.stop(Stop::Line);
+        }
+        let set = self.names.set(name, text);
+        self.whole(set);
+    }
+
+    // Adds bytes to the input.
+    fn give_input(&mut self, bytes: &[u8]) {
+        if bytes.is_empty() {
+            return self.stop(Stop::Line);
+        }
+        let added = self.input.extend_from_slice(bytes);
+        self.whole(added);
+    }
+}
+
+// The last of calls, 0 where there is none.
+fn last_of(calls: &[u64]) -> u64 {
+    let mut last = 0u64;
+    for call in calls {
+        last = last.max(*call);
+    }
+    last
 }
 
 // The parts of a path.

@@ -17,6 +17,12 @@ pub struct Stand {
     calls: u64,
     // The last call of a run that is to fail.
     last: u64,
+    // How many calls there were in all, the last of them that is to fail, and whether a stop is to come.
+    made: u64,
+    due: u64,
+    is_to_stop: bool,
+    // Whether a crash came before such a call.
+    is_cut: bool,
     faults: u64,
 }
 
@@ -27,23 +33,40 @@ impl Stand {
             other: None,
             calls: 0,
             last: 0,
+            made: 0,
+            due: 0,
+            is_to_stop: false,
+            is_cut: false,
             faults: 0,
         })
     }
 
     /// Lets a later call fail, over all calls from now on.
     pub fn fail_at(&mut self, call: u64) -> Result<(), AllocError> {
+        self.expect_call(call);
         self.folder.fail_at(call)
     }
 
     /// Lets a later call fail, which adds so many first bytes of its piece where it is an append.
     pub fn fail_append_at(&mut self, call: u64, added: u64) -> Result<(), AllocError> {
+        self.expect_call(call);
         self.folder.fail_append_at(call, added)
     }
 
     /// Lets a later changing call fail, and every call after it.
     pub fn stop_at(&mut self, event: u64) {
+        self.is_to_stop = true;
         self.folder.stop_at(event);
+    }
+
+    // Calls are to come to this number, counted from now on.
+    fn expect_call(&mut self, call: u64) {
+        self.due = self.due.max(self.made.saturating_add(call));
+    }
+
+    /// Whether a call that is to fail, or a stop, hasn't come.
+    pub fn has_unmade(&self) -> bool {
+        self.is_cut || self.is_to_stop || self.made < self.due
     }
 
     /// Places an entry that is neither a file nor a directory in a folder where nothing is pending, and says whether it may stand
@@ -58,6 +81,7 @@ impl Stand {
 
     /// The folder that a crash leaves.
     pub fn crash(&mut self, alloc: Global, pick: &Pick) -> Result<(), AllocError> {
+        self.is_cut = self.has_unmade();
         let folder = mem::replace(&mut self.folder, MemFolder::new(alloc)?);
         self.folder = folder.crash(pick)?;
         Ok(())
@@ -79,13 +103,15 @@ impl Stand {
         Ok(())
     }
 
-    /// Ends a run: calls that were to fail and weren't made pass.
-    pub fn end_run(&mut self, alloc: Global) {
+    /// Ends a run, and says whether all calls that were to fail were made. Others pass.
+    pub fn end_run(&mut self, alloc: Global) -> bool {
+        let is_whole = self.last <= self.calls;
         let base = FPath::base(alloc);
         for _ in self.calls..self.last.min(MOST_CALLS) {
             let _ = self.folder.kind(&base);
         }
         self.last = 0;
+        is_whole
     }
 
     /// How many calls there were.
@@ -107,8 +133,12 @@ impl Stand {
     {
         let faults = self.faults;
         self.calls = self.calls.saturating_add(1);
+        self.made = self.made.saturating_add(1);
         match &answer {
-            Err(FolderFault::Failed) => self.faults = faults.saturating_add(1),
+            Err(FolderFault::Failed) => {
+                self.is_to_stop = false;
+                self.faults = faults.saturating_add(1);
+            }
             Err(FolderFault::Refused) => self.faults = faults.saturating_add(1),
             _ => {}
         }

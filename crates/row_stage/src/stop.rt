@@ -8,6 +8,10 @@ pub enum Stop {
     Line,
     /// The folder refuses or fails a change that a line asks for.
     Folder,
+    /// A call that is to be done ends with a fault.
+    Undone,
+    /// A run makes fewer calls than those that are to fail.
+    Unmade,
     /// A vault that a line names doesn't open, or nothing is at a place in it.
     Vault,
     NoMemory,
@@ -19,6 +23,8 @@ impl Stop {
         match self {
             Stop::Line => "a line that can't be read",
             Stop::Folder => "a change that the folder doesn't make",
+            Stop::Undone => "a call that isn't done",
+            Stop::Unmade => "fewer calls than those that are to fail",
             Stop::Vault => "no such vault, or nothing at that place in it",
             Stop::NoMemory => "no memory",
         }

@@ -511,7 +511,7 @@ fn fed_with_holes(
 )
     requires { decoder.old.taken ≡ 0 }
 {
-    decoder.feed(args.bytes(1));
+    feed(decoder, args.bytes(1));
     if !feed_holes(decoder, buffer, &[0; HOLE], args.up_to(2, MOST_HOLES)) {
         return args.refuse("no hole");
     }
@@ -535,12 +535,20 @@ fn feed_holes(decoder: &mut Decoder, buffer: &mut ChunkBuf, hole: &[u8], holes: 
     holes > 0
 }
 
+// Feeds bytes, of which some may be taken.
+fn feed(decoder: &mut Decoder, piece: &[u8])
+    requires { decoder.old.taken + length piece.now ≤ 2 ^ 64 - 1 }
+    ensures { decoder.new.taken ≤ decoder.old.taken + length piece.now }
+{
+    decoder.feed(piece);
+}
+
 // Feeds a hole, and says whether it is one.
 fn is_hole(decoder: &mut Decoder, buffer: &mut ChunkBuf, hole: &[u8]) -> bool
     requires { decoder.old.taken + length hole.now ≤ 2 ^ 64 - 1 }
     ensures { decoder.new.taken ≤ decoder.old.taken + length hole.now }
 {
-    decoder.feed(hole);
+    feed(decoder, hole);
     decoder.next(buffer) == Ok(Step::Chunk(4_096))
 }
 

@@ -92,11 +92,6 @@ fn untidy(line: &str) -> Option<&'static str> {
     None
 }
 
-// The place in a text where a name at its front ends: at a comma, a blank or the text's end.
-fn name_end(text: &str) -> usize {
-    text.find([',', ' ']).unwrap_or(text.len())
-}
-
 // The most arguments that a call has.
 const MOST: usize = 100;
 
@@ -123,10 +118,11 @@ impl Given {
         }
     }
 
-    // The value of the name at the front of a text, and what stands behind the name.
+    // The value of the name at the front of a text, which ends at a comma, a blank or with the text, and what stands behind the name.
     fn value_at<'a>(&'a self, text: &'a str) -> Option<(&'a str, &'a str)> {
-        let (name, behind) = text.split_at(name_end(text));
-        Some((text_of(self.values.as_slice(), name)?, behind))
+        let name = text.split([',', ' ']).next()?;
+        let value = text_of(self.values.as_slice(), name)?;
+        Some((value, text.strip_prefix(name)?))
     }
 
     // Whether each name of a line has a value. A name stands behind a `$`.

@@ -202,8 +202,8 @@ within_found law target v vault shown opens shows =
 
 pub checks : HaveOneAnswer → (target : Checking) (answer : Answer) (before after : World) → after.told ≡ before.told → IsTrue (is_of_checking answer)
     → IfSeen before.told (λ v. Follows (ShowsReport target v) answer before.taken after.taken) → (answer ≡ FolderFault → Keeps before.taken after.taken)
-    → Keeps before.left after.left → ChecksVault target answer before after
-checks law target answer before after same own follows quiet untouched = record {
+    → Keeps before.left after.left → after.random ≡ before.random → ChecksVault target answer before after
+checks law target answer before after same own follows quiet untouched undrawn = record {
   unchanged = same;
   own = own;
   follows = follows;
@@ -217,4 +217,5 @@ checks law target answer before after same own follows quiet untouched = record 
   ];
   quiet = quiet;
   untouched = untouched;
+  undrawn = undrawn;
 }

@@ -7,10 +7,10 @@ use Rattle.std.proofs.KnownBytes.{Keeps-refl}
 use Rattle.folder_spec.specs.Path.{Path, parent}
 use Rattle.folder_spec.specs.Event.{Told, FromTo}
 use Rattle.folder_spec.specs.Image.{Image, IsImage}
-use Rattle.folder_spec.specs.Seen.{IfSeen, ShowsFree, seen, under}
+use Rattle.folder_spec.specs.Seen.{IfSeen, IsSeen, ShowsFree, seen, under}
 use Rattle.folder_spec.specs.State.{HasNothingPending, IsSound, State}
 use Rattle.folder_spec.specs.View.{Found, NoEntry, Folder, FileOf, Special, View, view_of}
-use Rattle.vault_read.specs.Laws.{HasOwnFolders}
+use Rattle.vault_read.specs.Laws.{HasOwnFolders, HaveOneAnswer}
 use Rattle.vault_spec.specs.Adding.{OpensAs}
 use Rattle.vault_spec.specs.Moving.{IsStray}
 use Rattle.vault_faults.specs.declared.fault.Limit.TheVariants as limited
@@ -26,7 +26,7 @@ use Rattle.checking_commands.specs.Faults.{of_check}
 use Rattle.command_opening.specs.Opening.{Opens}
 use Rattle.command_opening.specs.Refusing.{Unless, RefusesOpening}
 use Rattle.command_opening.specs.Places.{OfDirectory, OfMissing, OfFree, overlap, RefusesOverlap}
-use Rattle.checking_commands.specs.Repair.{IsOfMoving, TooMany, TooDeep, OfRepairing, MovesStrays, HasMovedStrays, RepairsApart, RepairsVault, is_of_test, moved_text}
+use Rattle.checking_commands.specs.Repair.{IsOfMoving, Moved, TooMany, TooDeep, OfRepairing, OpensFree, MovesStrays, HasMovedStrays, RepairsApart, RepairsVault, is_of_test, moved_text}
 use Rattle.command_opening.specs.Tests.{is_of_moving}
 use Rattle.command_answers.specs.Printing.{PrintsText}
 use Rattle.command_opening.proofs.Printings.{IsPrinted, nothing_printed, printed, printed_is_own}
@@ -36,7 +36,7 @@ use Rattle.command_opening.specs.World.{World}
 use Rattle.command_answers.specs.declared.answer.Answer.{Answer}
 use Rattle.command_answers.specs.declared.answer.Answer.TheVariants.{Done, OutOfMemory, OutputFault, Overlap}
 use Rattle.command_words.specs.declared.commands.Repairing.{Repairing}
-use Rattle.command_opening.proofs.Refusals.{opened_gives, unless_opened}
+use Rattle.command_opening.proofs.Refusals.{opened_gives, opened_is, unless_opened}
 
 -- ---- the tests
 
@@ -137,16 +137,37 @@ cut_or answer P (inl failed) = inl (inl failed)
 cut_or answer P (inr (inl memory)) = inl (inr (inr memory))
 cut_or answer P (inr (inr holds)) = inr holds
 
+-- where the vault passes no limit and the place is free, the strays are moved, unless the command is cut short
+pub moved_or_cut : HaveOneAnswer → (target : Repairing) (v : View) (answer : Answer) → Unless answer (OfRepairing target v answer) → OpensFree target v → (answer ≡ Done) ⊎ IsCutShort answer
+moved_or_cut law target v answer (inl failed) opens = inr (inl failed)
+moved_or_cut law target v answer (inr (inl memory)) opens = inr (inr (inr memory))
+moved_or_cut law target v answer (inr (inr of)) opens = by_moving (opened_is law v target.vault target.pass (refused answer) (Next target v answer) opens.vault opens.opens of)
+  where
+    within : IsOfMoving (format_of opens.vault) (under target.vault v) answer → (answer ≡ Done) ⊎ IsCutShort answer
+    within (Moved done fits) = inl done
+    within (TooMany is many) = absurd (opens.within.items many)
+    within (TooDeep is deep) = absurd (opens.within.depth deep.deep)
+
+    by_moving : Next target v answer opens.vault → (answer ≡ Done) ⊎ IsCutShort answer
+    by_moving of =
+        within (subst (λ x. OfMissing target.lost x answer (IsOfMoving (format_of opens.vault) (under target.vault v) answer)) opens.free.0
+        (subst (λ x. OfDirectory (parent target.lost) x answer (OfMissing target.lost (v target.lost) answer (IsOfMoving (format_of opens.vault) (under target.vault v) answer))) opens.free.1 of))
+
 pub repair_refused : (target : Repairing) (answer : Answer) (told told' : Option Told) (taken : Option (List ℕ)) → IsTrue (is_of_moving answer)
-    → IfSeen told (λ v. Unless answer (OfRepairing target v answer)) → (IsTrue (is_of_test answer) → told' ≡ told) → (told' ≡ told) ⊎ MovesStrays target told told'
-    → RepairsApart target answer told told' taken taken
-repair_refused target answer told told' taken own cause tested moves = record {
+    → IfSeen told (λ v. Unless answer (OfRepairing target v answer)) → ((v : View) → IsSeen told v → OpensFree target v → (answer ≡ Done) ⊎ IsCutShort answer)
+    → (IsTrue (is_of_test answer) → told' ≡ told) → (told' ≡ told) ⊎ MovesStrays target told told' → RepairsApart target answer told told' taken taken
+repair_refused target answer told told' taken own cause complete tested moves = record {
   own = or_left (is_of_moving answer) (is_of_end answer) own;
   cause = λ v is. cut_or answer (OfRepairing target v answer) (cause v is);
+  complete = complete;
   tested = tested;
   moves = moves;
   prints = nothing_printed moved_text (λ moved. HasMovedStrays target moved told told') is_of_moving answer taken own refl refl;
 }
+
+done_or_cut : (answer : Answer) → IsPrinted answer → (answer ≡ Done) ⊎ IsCutShort answer
+done_or_cut answer (inl done) = inl done
+done_or_cut answer (inr output) = inr (inr output)
 
 cause_printed : (target : Repairing) (v : View) (answer : Answer) → OfRepairing target v Done → IsPrinted answer → IsCutShort answer ⊎ OfRepairing target v answer
 cause_printed target v answer passed (inl done) = inr (subst (λ a. OfRepairing target v a) (sym done) passed)
@@ -163,17 +184,19 @@ pub repair_printed : (target : Repairing) (moved : List Path) (answer : Answer) 
 repair_printed target moved answer told told' taken taken' has passed moves prints is_printed = record {
   own = printed_is_own is_of_moving answer refl is_printed;
   cause = λ v is. cause_printed target v answer (passed v is) is_printed;
+  complete = λ v is opens. done_or_cut answer is_printed;
   tested = λ test. absurd (not_of_test answer is_printed test);
   moves = moves;
   prints = printed moved_text (λ moved. HasMovedStrays target moved told told') moved answer taken taken' has prints is_printed;
 }
 
 -- of folders that don't overlap
-pub repaired_apart : (target : Repairing) (answer : Answer) (before after : World) → overlap target.vault target.lost ≡ false → Keeps before.left after.left
+pub repaired_apart : (target : Repairing) (answer : Answer) (before after : World) → overlap target.vault target.lost ≡ false → Keeps before.left after.left → after.random ≡ before.random
     → RepairsApart target answer before.told after.told before.taken after.taken → RepairsVault target answer before after
-repaired_apart target answer before after apart untouched repairs = record {
+repaired_apart target answer before after apart untouched undrawn repairs = record {
   apart = subst (λ b. Either b (RefusesOverlap target.vault target.lost answer before after) (RepairsApart target answer before.told after.told before.taken after.taken)) (sym apart) repairs;
   untouched = untouched;
+  undrawn = undrawn;
 }
 
 -- of others
@@ -182,12 +205,14 @@ not_repaired target answer w overlaps answers = record {
   apart = subst (λ b. Either b (RefusesOverlap target.vault target.lost answer w w) (RepairsApart target answer w.told w.told w.taken w.taken)) (sym overlaps)
       (refuses_overlap target.vault target.lost answer w w.told answers refl);
   untouched = Keeps-refl w.left;
+  undrawn = refl;
 }
 
 -- the command isn't begun
 pub repairs_nothing : (target : Repairing) (w : World) → RepairsVault target OutOfMemory w w
 repairs_nothing target w = record {
   apart = by_test (overlap target.vault target.lost) _ _ (λ is. refuses_overlap target.vault target.lost OutOfMemory w w.told (inr refl) refl)
-      (λ is. repair_refused target OutOfMemory w.told w.told w.taken refl (λ v seen. inr (inl refl)) (λ test. refl) (inl refl));
+      (λ is. repair_refused target OutOfMemory w.told w.told w.taken refl (λ v seen. inr (inl refl)) (λ v seen opens. inr (inr (inr refl))) (λ test. refl) (inl refl));
   untouched = Keeps-refl w.left;
+  undrawn = refl;
 }

@@ -95,8 +95,8 @@ pub record OpensWithin (target : Checking) (v : View) (vault : Vault) : Type 0 w
   pub within : IsWithin (format_of vault) (under target.vault v)
   pub short : (at : Path) → ¬ IsTooLong (format_of vault) (under target.vault v) at
 
--- `fsck`, which writes nothing before all is known, takes nothing of the input and changes nothing. Its status is what is shown, unless it
--- is cut short; and where the vault passes no limit, that is 0 or 1.
+-- `fsck`, which writes nothing before all is known, takes nothing of the input, draws nothing and changes nothing. Its status is what is
+-- shown, unless it is cut short; and where the vault passes no limit, that is 0 or 1.
 pub record ChecksVault (target : Checking) (answer : Answer) (before after : World) : Type 0 where
   pub unchanged : after.told ≡ before.told
   pub own : IsTrue (is_of_checking answer)
@@ -105,3 +105,4 @@ pub record ChecksVault (target : Checking) (answer : Answer) (before after : Wor
   pub complete : (v : View) (vault : Vault) → IsSeen before.told v → OpensWithin target v vault → ((answer ≡ Done) ⊎ (answer ≡ Findings)) ⊎ IsCutShort answer
   pub quiet : answer ≡ FolderFault → Keeps before.taken after.taken
   pub untouched : Keeps before.left after.left
+  pub undrawn : after.random ≡ before.random

@@ -5,7 +5,7 @@ use Rattle.std.specs.List.{flat_map}
 use Rattle.folder_spec.specs.Path.{Path}
 use Rattle.folder_spec.specs.Event.{Told, FromTo}
 use Rattle.folder_spec.specs.Image.{Image, IsImage}
-use Rattle.folder_spec.specs.Seen.{IfSeen, seen, under}
+use Rattle.folder_spec.specs.Seen.{IfSeen, IsSeen, ShowsFree, seen, under}
 use Rattle.folder_spec.specs.State.{HasNothingPending, IsSound, State}
 use Rattle.folder_spec.specs.View.{View, view_of}
 use Rattle.plain_tree.specs.Shown.{shown_path}
@@ -88,14 +88,23 @@ moved_line at = codes "moved " ++ shown_path at ++ 10 ∷ []
 abbrev pub moved_text : List Path → List ℕ
 moved_text moved = flat_map moved_line moved
 
+-- the root and the passphrase are a vault, which passes no limit, and there is room for a folder of lost ones
+pub record OpensFree (target : Repairing) (v : View) : Type 0 where
+  pub vault : Vault
+  pub opens : Opens v target.vault target.pass vault
+  pub within : IsWithin (format_of vault) (under target.vault v)
+  pub free : ShowsFree v target.lost
+
 pub record RepairsApart (target : Repairing) (answer : Answer) (told told' : Option Told) (taken taken' : Option (List ℕ)) : Type 0 where
   pub own : IsTrue (is_of_repairing answer)
   pub cause : IfSeen told (λ v. IsCutShort answer ⊎ OfRepairing target v answer)
+  pub complete : (v : View) → IsSeen told v → OpensFree target v → (answer ≡ Done) ⊎ IsCutShort answer
   pub tested : IsTrue (is_of_test answer) → told' ≡ told
   pub moves : (told' ≡ told) ⊎ MovesStrays target told told'
   pub prints : PrintsDone moved_text (λ moved. HasMovedStrays target moved told told') answer taken taken'
 
--- `repair`, which takes nothing of the input
+-- `repair`, which takes nothing of the input and draws nothing
 pub record RepairsVault (target : Repairing) (answer : Answer) (before after : World) : Type 0 where
   pub apart : Either (overlap target.vault target.lost) (RefusesOverlap target.vault target.lost answer before after) (RepairsApart target answer before.told after.told before.taken after.taken)
   pub untouched : Keeps before.left after.left
+  pub undrawn : after.random ≡ before.random

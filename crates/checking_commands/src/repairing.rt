@@ -18,6 +18,7 @@ use folder_model::{FPath, Folder};
 use port_model::Sink;
 use std::alloc::{AllocError, Global};
 use vault_check::laws::{repaired_vaults_have_no_strays, repairs_keep_what_opens};
+use vault_read::laws::roots_have_one_answer;
 
 /// Moves the strays of a vault, and then writes their old paths, one a line.
 pub fn repair<F: Folder, O: Sink>(
@@ -36,6 +37,7 @@ pub fn repair<F: Folder, O: Sink>(
     if do_overlap(&target.vault, &target.lost) {
         return overlapping(&target.vault, &target.lost);
     }
+    roots_have_one_answer();
     match move_strays(alloc, target, folder) {
         Ok(moved) => print_moved(alloc, moved.as_slice(), out),
         Err(answer) => answer,

@@ -93,6 +93,7 @@ module _ (resuming : Resuming) where
     retires = retire_stopped OutOfMemory w.told w.told w.taken refl (λ v is. inl (passes_unread resuming.passes OutOfMemory w.told w.told v refl (inr (inl refl)))) (λ g v is asked. keeps_same law g w.told w.told refl)
         (λ g v is asked can. inr (inl refl));
     untouched = Keeps-refl w.left;
+    undrawn = refl;
   }
 
   -- the root that is named of a vault that isn't opened is the journal's

@@ -1,5 +1,5 @@
 -- `retire`: removing the source of a finished migration, and its work folder.
-use Rattle.std.specs.Prelude.{◌⊎◌, ◌++◌, ◌∷◌, [], ℕ, Bool, ◌||◌, List, codes, decimal, IfErr, IsTrue, Option, Some, None, Result}
+use Rattle.std.specs.Prelude.{◌≡◌, ◌⊎◌, ◌++◌, ◌∷◌, [], ℕ, Bool, ◌||◌, List, codes, decimal, IfErr, IsTrue, Option, Some, None, Result}
 use Rattle.std.specs.Io.KnownBytes.{Keeps}
 use Rattle.folder_spec.specs.Event.{Told}
 use Rattle.folder_spec.specs.Path.{Path}
@@ -84,7 +84,8 @@ pub record Retires (resuming : Resuming) (answer : Answer) (told told' : Option 
   pub completes : (g : Migration) → IfSeen told (λ v. IsResumedFor g resuming v → CanRetire g v → Completes answer)
   pub prints : PrintsDone retired_text (IsRetired resuming told told') answer taken taken'
 
--- `retire`, which takes nothing of the input
+-- `retire`, which takes nothing of the input and draws nothing
 pub record RetiresSource (resuming : Resuming) (answer : Answer) (before after : World) : Type 0 where
   pub retires : Retires resuming answer before.told after.told before.taken after.taken
   pub untouched : Keeps before.left after.left
+  pub undrawn : after.random ≡ before.random

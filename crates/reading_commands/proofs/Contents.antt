@@ -4,10 +4,11 @@ use Rattle.std.specs.Prelude.{◌⊎◌, MatchResult, IsTrue}
 use Rattle.chunk_files.specs.Keys.{Keys}
 use Rattle.chunk_files.specs.Reading.{Reading}
 use Rattle.folder_spec.specs.Event.{Told}
+use Rattle.std.specs.Io.KnownBytes.{Keeps}
 use Rattle.folder_spec.specs.Path.{Path}
 use Rattle.folder_spec.specs.View.{View}
 use Rattle.plain_tree.specs.Names as plain
-use Rattle.vault_read.specs.Contents.{file_found, content_at, IsContent, WritesContent, Cats}
+use Rattle.vault_read.specs.Contents.{file_found, content_at, limited_reading, IsContent, WritesContent, Cats}
 use Rattle.vault_read.specs.Finding.{Refuses}
 use Rattle.vault_read.specs.Laws.{HaveOneAnswer}
 use Rattle.vault_faults.specs.declared.fault.CatFault.{CatFault}
@@ -22,20 +23,20 @@ use Rattle.vault_spec.specs.Format.{Format, file_bytes}
 use Rattle.vault_spec.specs.Standing.{File, standing}
 use Rattle.vault_spec.specs.Vault.{Vault, format_of}
 use Rattle.vault_spec.specs.declared.Lack.TheVariants as lacks
-use Rattle.reading_commands.specs.Cat.{ShowsContent, ShowsFile, shown_reading, answer_to_ending}
+use Rattle.reading_commands.specs.Cat.{OpensFile, ShowsContent, ShowsFile, answer_to_ending, is_of_finding, shown_reading}
 use Rattle.reading_commands.specs.Faults.{of_cat}
 use Rattle.command_opening.specs.Faults.{of_find}
 use Rattle.reading_commands.specs.Finding.{answer_to_finding}
 use Rattle.command_opening.specs.Opening.{Opens}
 use Rattle.command_opening.specs.Refusing.{Unless}
-use Rattle.command_opening.specs.Shown.{Shown, refused, Follows, Reads, is_of_reading}
+use Rattle.command_opening.specs.Shown.{Shown, refused, Follows, IsCutShort, Reads, is_of_reading}
 use Rattle.command_answers.specs.declared.answer.Answer.{Answer}
 use Rattle.command_answers.specs.declared.answer.Answer.TheVariants.{Done, FolderFault, Damaged, Limit}
 use Rattle.command_answers.specs.declared.answer.Damage.TheVariants as damage
 use Rattle.command_answers.specs.declared.answer.Limit.TheVariants as limit
 use Rattle.command_words.specs.declared.commands.Target.{Target}
-use Rattle.command_opening.proofs.Refusals.{opened_gives, opened_one}
-use Rattle.command_opening.proofs.Showing.{IsOne, follows_unless, reads_by}
+use Rattle.command_opening.proofs.Refusals.{opened_gives, opened_is, opened_one}
+use Rattle.command_opening.proofs.Showing.{IsOne, all_or_cut, follows_unless, reads_by}
 
 -- a refusal to find, as it is answered
 pub find_refused : {T : Type 0} (root : Path) (found : Result T Refusal) (fault : FindFault) → Refuses root found fault
@@ -173,3 +174,32 @@ cat_fails cat.Failed is = inl refl
 cat_fails (cat.Find find.Failed) is = inr refl
 cat_fails (cat.Find fault) is = cc
 cat_fails fault is = cc
+
+-- a file that isn't found is the one fault that is answered so, and nothing is written then
+pub quiet_fault : (fault : CatFault) (taken taken' : Option (List ℕ)) → ((found : FindFault) → fault ≡ cat.Find found → Keeps taken taken')
+    → IsTrue (is_of_finding (of_cat fault)) → Keeps taken taken'
+quiet_fault (cat.Find found) taken taken' keeps finding = keeps found refl
+quiet_fault (cat.Damaged at fault) taken taken' keeps finding = cc
+quiet_fault (cat.Limit which) taken taken' keeps finding = cc
+quiet_fault cat.Sink taken taken' keeps finding = cc
+quiet_fault cat.Failed taken taken' keeps finding = cc
+quiet_fault cat.NoMemory taken taken' keeps finding = cc
+
+-- a whole file is written, unless the command is cut short
+pub written_or_cut : HaveOneAnswer → (target : Target) (answer : Answer) (told told' : Option Told) (taken taken' : Option (List ℕ)) → Reads (ShowsContent target) answer told told' taken taken'
+    → (v : View) → IsSeen told v → OpensFile target v → (answer ≡ Done) ⊎ IsCutShort answer
+written_or_cut law target answer told told' taken taken' reads v is opens = elim (all_or_cut (ShowsContent target v) answer taken taken' (reads.follows v is)) [
+  | inl all ↦ inl (all.2 ∙ ap (λ (s : Shown). s.answer) (shown_whole all.0 all.1) ∙ ap (answer_to_ending (target.vault ++ opens.at)) opens.whole)
+  | inr cut ↦ inr cut
+]
+  where
+    by_found : Shown → Vault → Result Path Refusal → Type 0
+    by_found shown vault found =
+        MatchResult found (λ at. ShowsFile (format_of vault).content (target.vault ++ at) (file_bytes (v (target.vault ++ at))) shown)
+        (λ refusal. shown ≡ refused (answer_to_finding target.vault refusal))
+
+    shown_whole : (shown : Shown) → ShowsContent target v shown → shown ≡ shown_reading (target.vault ++ opens.at) (limited_reading (format_of opens.vault).content opens.bytes)
+    shown_whole shown shows =
+        subst (λ bytes. ShowsFile (format_of opens.vault).content (target.vault ++ opens.at) bytes shown) opens.stored
+        (subst (by_found shown opens.vault) opens.found
+        (opened_is law v target.vault target.pass shown (λ vault. by_found shown vault (content_at (format_of vault) target.vault v target.path)) opens.vault opens.opens shows))

@@ -1,9 +1,9 @@
 -- What `decrypt-file` did, from what its parts say.
-use Rattle.std.proofs.Common.{◌≡◌, ℕ, zero, ◌+◌, List, [], Some, inl, inr, refl, sym, ap, ◌∙◌, subst, arith}
+use Rattle.std.proofs.Common.{◌≡◌, ℕ, ◌+◌, List, [], Some, inl, inr, refl, sym, ap, ◌∙◌, subst, arith}
 use Rattle.std.specs.Prelude.{◌⊎◌, IfSome, IsTrue, Option}
 use Rattle.std.specs.List.{concat}
 use Rattle.std.specs.Io.KnownBytes.{IsAtEnd}
-use Rattle.std.proofs.KnownBytes.{Appends-nil, Consumes-nil}
+use Rattle.std.proofs.KnownBytes.{Consumes-nil, Keeps-refl}
 use Rattle.chunk_files.specs.FileOf.{FilesAreWhatTheyGive, WholeFilesEnd}
 use Rattle.chunk_files.specs.Reading.{Reading}
 use Rattle.chunk_files.specs.declared.fault.ChunkFault.{ChunkFault}
@@ -34,9 +34,9 @@ pub decrypts : FilesAreWhatTheyGive → WholeFilesEnd → (key : List ℕ) (end 
     → TakesAtMost (input_limit + 1) before.left after.left
     → ((end ≡ OutputFault) ⊎ ((fault : ChunkFault) × (end ≡ Damaged fault)) → IfSome before.left (λ input. TakesNear key input before.left after.left before.taken after.taken))
     → (end ≡ Done → IsTrue after.ended × IsAtEnd after.left)
-    → after.told ≡ before.told
+    → after.told ≡ before.told → after.random ≡ before.random
     → DecryptsFile key (answer_to_end end) before after
-decrypts gives ends key end before after tells writes takes near ended same = record {
+decrypts gives ends key end before after tells writes takes near ended same undrawn = record {
   end = end;
   is = refl;
   tells = tells_of;
@@ -56,6 +56,7 @@ decrypts gives ends key end before after tells writes takes near ended same = re
   takes = takes;
   near = λ which input is. told_input (λ input. TakesNear key input before.left after.left before.taken after.taken) before.left input (near which) is;
   unchanged = same;
+  undrawn = undrawn;
 }
   where
     tells_of : (input : List ℕ) → before.left ≡ Some input → TellsOf end (input_reading key input)
@@ -70,7 +71,7 @@ decrypts_nothing key w = record {
   end = OutOfMemory;
   is = refl;
   tells = λ input is. tt;
-  writes = λ input is. (zero, Appends-nil w.taken);
+  writes = λ input is. Keeps-refl w.taken;
   decided = λ input is. inr (inr (inr refl));
   decrypted = λ done input is. cc;
   whole_files = λ input content is within file. inr (inr (inr refl));
@@ -78,4 +79,5 @@ decrypts_nothing key w = record {
   takes = ([], omega arith, Consumes-nil w.left);
   near = λ which input is. absurd (elim which [ inl output ↦ cc | inr damaged ↦ let clash : OutOfMemory ≡ Damaged damaged.0 = damaged.1 in cc ]);
   unchanged = refl;
+  undrawn = refl;
 }

@@ -1,7 +1,8 @@
--- What `ls` shows is one.
-use Rattle.std.proofs.Common.{◌≡◌, List, [], ◌∷◌, Result, Ok, Err, ap, sym, ◌∙◌}
-use Rattle.std.specs.Prelude.{MatchResult}
-use Rattle.folder_spec.specs.Seen.{under}
+-- What `ls` shows is one, and a directory that is entered is shown.
+use Rattle.std.proofs.Common.{◌≡◌, ℕ, List, [], ◌∷◌, Option, Result, Ok, Err, inl, inr, ap, subst, sym, ◌∙◌}
+use Rattle.std.specs.Prelude.{◌⊎◌, MatchResult}
+use Rattle.folder_spec.specs.Event.{Told}
+use Rattle.folder_spec.specs.Seen.{IsSeen, under}
 use Rattle.folder_spec.specs.View.{View}
 use Rattle.vault_read.specs.Laws.{HaveOneAnswer}
 use Rattle.vault_spec.specs.Find.{Refusal, enter}
@@ -9,12 +10,13 @@ use Rattle.vault_spec.specs.Format.{Format, Directory}
 use Rattle.vault_spec.specs.Listing.{Listed, AreListed}
 use Rattle.vault_spec.specs.Vault.{Vault, format_of}
 use Rattle.reading_commands.specs.Finding.{answer_to_finding}
-use Rattle.reading_commands.specs.Ls.{ShowsItems, ls_text}
-use Rattle.command_opening.specs.Shown.{Shown, refused}
+use Rattle.reading_commands.specs.Ls.{OpensDirectory, ShowsItems, ls_text}
+use Rattle.command_opening.specs.Shown.{IsCutShort, Reads, Shown, refused}
+use Rattle.command_answers.specs.declared.answer.Answer.{Answer}
 use Rattle.command_answers.specs.declared.answer.Answer.TheVariants.{Done}
 use Rattle.command_words.specs.declared.commands.Target.{Target}
-use Rattle.command_opening.proofs.Refusals.{opened_one}
-use Rattle.command_opening.proofs.Showing.{IsOne}
+use Rattle.command_opening.proofs.Refusals.{opened_is, opened_one}
+use Rattle.command_opening.proofs.Showing.{IsOne, all_or_cut}
 
 -- a directory has one list of its items
 abbrev pub HaveOneList : Type 0
@@ -38,3 +40,16 @@ items_are_one law lists target v a b =
     by_entered vault (Ok dir) x y =
         x.2 ∙ ap (λ items. record { pieces = ls_text items ∷ []; answer = Done }) (lists (format_of vault) (under target.vault v) dir x.0 y.0 x.1 y.1) ∙ sym y.2
     by_entered vault (Err refusal) x y = x ∙ sym y
+
+-- a directory that is entered is listed, unless the command is cut short
+pub listed_or_cut : HaveOneAnswer → (target : Target) (answer : Answer) (told told' : Option Told) (taken taken' : Option (List ℕ)) → Reads (ShowsItems target) answer told told' taken taken'
+    → (v : View) → IsSeen told v → OpensDirectory target v → (answer ≡ Done) ⊎ IsCutShort answer
+listed_or_cut law target answer told told' taken taken' reads v is opens = elim (all_or_cut (ShowsItems target v) answer taken taken' (reads.follows v is)) [
+  | inl all ↦ inl (all.2 ∙ ap (λ (s : Shown). s.answer) (listed all.0 all.1).2)
+  | inr cut ↦ inr cut
+]
+  where
+    listed : (shown : Shown) → ShowsItems target v shown → ShowsEntered target v shown opens.vault (Ok opens.directory)
+    listed shown shows =
+        subst (ShowsEntered target v shown opens.vault) opens.entered
+        (opened_is law v target.vault target.pass shown (λ vault. ShowsEntered target v shown vault (enter (format_of vault) (under target.vault v) target.path)) opens.vault opens.opens shows)

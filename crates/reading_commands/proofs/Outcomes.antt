@@ -98,6 +98,7 @@ module _ (key : List ℕ) where
         → TakesNear key input (Some input) (Some rest) taken taken'
     near-whole front behind firsts parts close = record {
       whole = length front;
+      given = omega (arith, ap length firsts, length-take (length front) (input_reading key input).chunks);
       behind = behind;
       wrote = subst (Appends taken taken') (parts ∙ ap (λ (cs : List (List ℕ)). concat cs ++ behind) (sym firsts)) s.wrote;
       eaten = s.fed;

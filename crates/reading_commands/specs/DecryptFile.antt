@@ -51,5 +51,6 @@ pub record DecryptsFile (key : List ℕ) (result : Answer) (before after : World
   -- where the output failed or the file is damaged, little more was taken than the output took
   pub near : (end ≡ OutputFault) ⊎ ((fault : ChunkFault) × (end ≡ Damaged fault)) → (input : List ℕ) → before.left ≡ Some input
       → TakesNear key input before.left after.left before.taken after.taken
-  -- the folder isn't used
+  -- the folder and the random source aren't used
   pub unchanged : after.told ≡ before.told
+  pub undrawn : after.random ≡ before.random

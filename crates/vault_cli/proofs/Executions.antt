@@ -38,10 +38,11 @@ reads_nothing Shows told taken = record {
 }
 
 pub not_begun : AreSafe → (command : Option Command) (w : World) → Executes command OutOfMemory w w
-not_begun law None w = record { answers = inr refl; unchanged = refl; untouched = Keeps-refl w.left; unwritten = Keeps-refl w.taken }
+not_begun law None w = record { answers = inr refl; unchanged = refl; untouched = Keeps-refl w.left; unwritten = Keeps-refl w.taken; undrawn = refl }
 not_begun law (Some (DecryptFile key)) w = decrypts_nothing key w
-not_begun law (Some (Ls target)) w = record { reads = reads_nothing _ w.told w.taken; quiet = λ failed. cc; untouched = Keeps-refl w.left }
-not_begun law (Some (Cat target)) w = record { reads = reads_nothing _ w.told w.taken; untouched = Keeps-refl w.left }
+not_begun law (Some (Ls target)) w = record { reads = reads_nothing _ w.told w.taken; complete = λ v is opens. inr (inr (inr refl)); quiet = inr (inr (Keeps-refl w.taken)); untouched = Keeps-refl w.left; undrawn = refl }
+not_begun law (Some (Cat target)) w =
+    record { reads = reads_nothing _ w.told w.taken; complete = λ v is opens. inr (inr (inr refl)); quiet = λ finding. Keeps-refl w.taken; untouched = Keeps-refl w.left; undrawn = refl }
 not_begun law (Some (Fsck target)) w = record {
   unchanged = refl;
   own = refl;
@@ -50,6 +51,7 @@ not_begun law (Some (Fsck target)) w = record {
   complete = λ v vault is opens. inr (inr (inr refl));
   quiet = λ failed. cc;
   untouched = Keeps-refl w.left;
+  undrawn = refl;
 }
 not_begun law (Some (Repair target)) w = repairs_nothing target w
 not_begun law (Some (Init new)) w = makes_no_vault new w

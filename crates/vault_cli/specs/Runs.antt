@@ -26,6 +26,7 @@ pub record IsNoCommand (answer : Answer) (before after : World) : Type 0 where
   pub unchanged : after.told ≡ before.told
   pub untouched : Keeps before.left after.left
   pub unwritten : Keeps before.taken after.taken
+  pub undrawn : after.random ≡ before.random
 
 abbrev pub Executes : Option Command → Answer → World → World → Type 0
 Executes None answer before after = IsNoCommand answer before after

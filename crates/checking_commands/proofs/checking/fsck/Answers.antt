@@ -1,3 +1,4 @@
+use Rattle.std.proofs.Common.{refl}
 use Rattle.std.proofs.KnownBytes.{Keeps-refl}
 use Rattle.command_opening.specs.World.{World}
 use Rattle.checking_commands.proofs.Checks.{checks}
@@ -7,4 +8,4 @@ pub returns-clause-checks : goal.returns-clause-checks
 returns-clause-checks g c left ended random =
     let before : World = record { told = g.F.Folder.told c.args.folder.now; left = left; ended = ended; taken = g.O.Sink.taken c.args.out.now; random = random } in
     let after : World = record { told = g.F.Folder.told c.tell.new.folder; left = left; ended = ended; taken = g.O.Sink.taken c.tell.new.out; random = random } in
-    checks c.roots_have_one_answer.ensures c.args.target.now c.tell.result before after c.tell.ensures.told c.tell.ensures.own c.tell.ensures.follows c.tell.ensures.quiet (Keeps-refl left)
+    checks c.roots_have_one_answer.ensures c.args.target.now c.tell.result before after c.tell.ensures.told c.tell.ensures.own c.tell.ensures.follows c.tell.ensures.quiet (Keeps-refl left) refl

@@ -11,4 +11,4 @@ returns-clause-decrypts g c told random =
     let after : World = record { told = told; left = g.I.Source.left c.decrypt.new.input; ended = g.I.Source.ended c.decrypt.new.input; taken = g.O.Sink.taken c.decrypt.new.out; random = random } in
     subst (λ answer. DecryptsFile key answer before after) (sym c.from.ensures)
     (decrypts c.files_are_what_they_give.ensures c.whole_files_end.ensures key c.decrypt.result before after c.decrypt.ensures.tells c.decrypt.ensures.writes
-    c.decrypt.ensures.takes c.decrypt.ensures.near c.decrypt.ensures.end refl)
+    c.decrypt.ensures.takes c.decrypt.ensures.near c.decrypt.ensures.end refl refl)

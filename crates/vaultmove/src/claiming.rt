@@ -1,81 +1,99 @@
 //! What a run claims of the machine's folder before the command begins.
 
 use command_answers::Answer;
-use command_words::{Claims, claims_of};
+use command_words::Request;
+use command_words::rows::{Claim, Place};
 use folder_model::{FPath, FolderFault};
 use host_ports::{Hold, HostFolder, Wanted};
 use move_journal::{Journal, JournalFault, read};
 use std::alloc::{AllocError, Global};
 
-/// Claims what the command of these words may change. Where a claim isn't had, or what has to be renamed would cross from one file
-/// system to another, the folder changes nothing any more, and the command ends where it would change something.
-pub fn claim(alloc: Global, words: &[String], folder: &mut HostFolder) -> Result<(), Answer> {
-    match claims_of(alloc, words)? {
-        Claims::Nothing => Ok(()),
-        Claims::Beside { vault, other } => claim_beside(&vault, &other, folder),
-        Claims::Migration {
-            source,
-            target,
-            work,
-        } => claim_migration(&source, &target, &work, folder),
-        Claims::Resumption(work) => claim_resumption(alloc, &work, folder),
-        Claims::Retirement(work) => claim_retirement(alloc, &work, folder),
+/// Claims what the command may change. Where a claim isn't had, or what has to be renamed would cross from one file system to another, the
+/// folder changes nothing any more, and the command ends where it would change something.
+pub fn claim(alloc: Global, request: &Request, folder: &mut HostFolder) -> Result<(), Answer> {
+    claim_those(alloc, request, &None, folder)?;
+    let journal = journal_of(alloc, request, folder)?;
+    if journal.is_some() {
+        claim_those(alloc, request, &journal, folder)?;
     }
-}
-
-fn claim_beside(vault: &FPath, other: &FPath, folder: &mut HostFolder) -> Result<(), Answer> {
-    hold_both(folder, alone(vault)?, alone(other)?)?;
-    folder.keep_on_one_file_system(vault, other);
+    if let Some((one, other)) = request.row().one_file_system {
+        if let Some(one) = path_of(one, request, &journal) {
+            if let Some(other) = path_of(other, request, &journal) {
+                folder.keep_on_one_file_system(one, other);
+            }
+        }
+    }
     Ok(())
 }
 
-// The source is only read.
-fn claim_migration(
-    source: &FPath,
-    target: &FPath,
-    work: &FPath,
+// Claims values of the words at once, or the roots that the journal names. That another run holds one is left to the command to meet.
+fn claim_those(
+    alloc: Global,
+    request: &Request,
+    journal: &Option<Journal>,
     folder: &mut HostFolder,
 ) -> Result<(), Answer> {
-    hold(folder, &mut [shared(source)?, alone(target)?, alone(work)?])?;
-    folder.keep_on_one_file_system(target, work);
-    Ok(())
-}
-
-// Claims the work folder, and then the vaults that its journal names. The source is only read.
-fn claim_resumption(alloc: Global, work: &FPath, folder: &mut HostFolder) -> Result<(), Answer> {
-    match claim_work(alloc, work, folder)? {
-        Some(journal) => claim_to_resume(&journal, work, folder),
-        None => Ok(()),
+    let mut wanted = wanted_of(alloc, request, journal)?;
+    match folder.claim(wanted.as_mut_slice()) {
+        Err(FolderFault::NoMemory) => Err(Answer::OutOfMemory),
+        _ => Ok(()),
     }
 }
 
-fn claim_to_resume(journal: &Journal, work: &FPath, folder: &mut HostFolder) -> Result<(), Answer> {
-    hold_both(folder, shared(&journal.source)?, alone(&journal.target)?)?;
-    folder.keep_on_one_file_system(&journal.target, work);
-    Ok(())
-}
-
-// Claims the work folder, and then the vaults that its journal names. The source is to be moved into the work folder.
-fn claim_retirement(alloc: Global, work: &FPath, folder: &mut HostFolder) -> Result<(), Answer> {
-    match claim_work(alloc, work, folder)? {
-        Some(journal) => claim_to_retire(&journal, work, folder),
-        None => Ok(()),
-    }
-}
-
-fn claim_to_retire(journal: &Journal, work: &FPath, folder: &mut HostFolder) -> Result<(), Answer> {
-    hold_both(folder, alone(&journal.source)?, alone(&journal.target)?)?;
-    folder.keep_on_one_file_system(&journal.source, work);
-    Ok(())
-}
-
-// Claims the work folder, and reads its journal, if one of use is there.
-fn claim_work(
+fn wanted_of(
     alloc: Global,
-    work: &FPath,
+    request: &Request,
+    journal: &Option<Journal>,
+) -> Result<Vec<Wanted>, AllocError> {
+    let mut wanted = Vec::new(alloc);
+    for claim in request.row().claims {
+        let (place, hold) = held(*claim);
+        if is_of_journal(place) == journal.is_some() {
+            if let Some(at) = path_of(place, request, journal) {
+                let at = at.copy()?;
+                wanted.push(Wanted { at, hold })?;
+            }
+        }
+    }
+    Ok(wanted)
+}
+
+fn held(claim: Claim) -> (Place, Hold) {
+    match claim {
+        Claim::Shared(place) => (place, Hold::Shared),
+        Claim::Alone(place) => (place, Hold::Alone),
+    }
+}
+
+fn is_of_journal(place: Place) -> bool {
+    match place {
+        Place::Value(_) => false,
+        Place::JournalSource | Place::JournalTarget => true,
+    }
+}
+
+fn path_of<'a>(
+    place: Place,
+    request: &'a Request,
+    journal: &'a Option<Journal>,
+) -> Option<&'a FPath> {
+    match (place, journal) {
+        (Place::Value(number), _) => request.folder(number),
+        (Place::JournalSource, Some(journal)) => Some(&journal.source),
+        (Place::JournalTarget, Some(journal)) => Some(&journal.target),
+        _ => None,
+    }
+}
+
+// Reads the journal of the first value, where its roots are claimed and one of use is there.
+fn journal_of(
+    alloc: Global,
+    request: &Request,
     folder: &mut HostFolder,
 ) -> Result<Option<Journal>, Answer> {
-    hold(folder, &mut [alone(work)?])?;
+    let Some(work) = work_of(request) else {
+        return Ok(None);
+    };
     match read(alloc, folder, work) {
         Ok(journal) => Ok(Some(journal)),
         Err(JournalFault::NoMemory) => Err(Answer::OutOfMemory),
@@ -83,28 +101,12 @@ fn claim_work(
     }
 }
 
-// Claims these paths. That another run holds one is left to the command to meet.
-fn hold(folder: &mut HostFolder, wanted: &mut [Wanted]) -> Result<(), Answer> {
-    match folder.claim(wanted) {
-        Err(FolderFault::NoMemory) => Err(Answer::OutOfMemory),
-        _ => Ok(()),
+// The work folder of a command that claims what a journal names.
+fn work_of(request: &Request) -> Option<&FPath> {
+    for claim in request.row().claims {
+        if is_of_journal(held(*claim).0) {
+            return request.folder(0);
+        }
     }
-}
-
-fn hold_both(folder: &mut HostFolder, one: Wanted, other: Wanted) -> Result<(), Answer> {
-    hold(folder, &mut [one, other])
-}
-
-fn alone(at: &FPath) -> Result<Wanted, AllocError> {
-    Ok(Wanted {
-        at: at.copy()?,
-        hold: Hold::Alone,
-    })
-}
-
-fn shared(at: &FPath) -> Result<Wanted, AllocError> {
-    Ok(Wanted {
-        at: at.copy()?,
-        hold: Hold::Shared,
-    })
+    None
 }

@@ -5,8 +5,9 @@ mod claiming;
 mod streams;
 
 use crate::claiming::claim;
-use crate::streams::{WipedSink, prints_as_it_goes, tell};
+use crate::streams::{WipedSink, tell};
 use command_answers::{Answer, report};
+use command_words::Request;
 use host_ports::{HostFolder, HostRandoms};
 use port_model::{StdSink, StdSource};
 use std::io::IsTerminal;
@@ -15,6 +16,7 @@ use std::{env, io};
 use vault_cli::run;
 
 // The status of a run whose folder failed.
+
 const FOLDER_FAULT: u8 = 4;
 
 fn main(rt: HostRuntime) -> ExitCode {
@@ -22,7 +24,8 @@ fn main(rt: HostRuntime) -> ExitCode {
         Ok(status) => ExitCode::from(status),
         Err(answer) => {
             let mut err = StdSink::new(rt.stderr());
-            ExitCode::from(report(rt.alloc(), answer, &mut err).status())
+            let status = report(rt.alloc(), answer, &mut err).status();
+            ExitCode::from(status)
         }
     }
 }
@@ -31,14 +34,32 @@ fn main(rt: HostRuntime) -> ExitCode {
 fn status(rt: &HostRuntime) -> Result<u8, Answer> {
     let words = words(rt)?;
     let mut folder = HostFolder::new(rt.clone()?, rt.alloc(), "")?;
-    status_of(rt, words.as_slice(), &mut folder)
+    let streams = claim_words(rt, words.as_slice(), &mut folder)?;
+    status_of(rt, words.as_slice(), streams, &mut folder)
 }
 
-fn status_of(rt: &HostRuntime, words: &[String], folder: &mut HostFolder) -> Result<u8, Answer> {
-    claim(rt.alloc(), words, folder)?;
+// Claims what the command of these words may change, and tells whether it prints before all is done.
+fn claim_words(
+    rt: &HostRuntime,
+    words: &[String],
+    folder: &mut HostFolder,
+) -> Result<bool, Answer> {
+    let Some(request) = Request::read(rt.alloc(), words)? else {
+        return Ok(false);
+    };
+    claim(rt.alloc(), &request, folder)?;
+    Ok(request.row().streams)
+}
+
+fn status_of(
+    rt: &HostRuntime,
+    words: &[String],
+    streams: bool,
+    folder: &mut HostFolder,
+) -> Result<u8, Answer> {
     let terminal = rt.stderr().is_terminal();
     let shared = terminal && rt.stdout().is_terminal();
-    let shows = terminal && !(shared && prints_as_it_goes(words)) && clears_lines(rt);
+    let shows = terminal && !(shared && streams) && clears_lines(rt);
     if shows {
         folder.show_life();
     }

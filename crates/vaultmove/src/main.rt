@@ -3,9 +3,11 @@
 
 mod claiming;
 mod streams;
+mod synopsis;
 
 use crate::claiming::claim;
 use crate::streams::{WipedSink, tell};
+use crate::synopsis::tell_commands;
 use command_answers::{Answer, report};
 use command_words::Request;
 use host_ports::{HostFolder, HostRandoms};
@@ -15,7 +17,8 @@ use std::process::ExitCode;
 use std::{env, io};
 use vault_cli::run;
 
-// The status of a run whose folder failed.
+// The status of words that make no command, and of a run whose folder failed.
+const BAD_COMMAND_LINE: u8 = 2;
 
 const FOLDER_FAULT: u8 = 4;
 
@@ -25,6 +28,7 @@ fn main(rt: HostRuntime) -> ExitCode {
         Err(answer) => {
             let mut err = StdSink::new(rt.stderr());
             let status = report(rt.alloc(), answer, &mut err).status();
+            explain_words(&rt, status, None);
             ExitCode::from(status)
         }
     }
@@ -35,7 +39,9 @@ fn status(rt: &HostRuntime) -> Result<u8, Answer> {
     let words = words(rt)?;
     let mut folder = HostFolder::new(rt.clone()?, rt.alloc(), "")?;
     let streams = claim_words(rt, words.as_slice(), &mut folder)?;
-    status_of(rt, words.as_slice(), streams, &mut folder)
+    let status = status_of(rt, words.as_slice(), streams, &mut folder)?;
+    explain_words(rt, status, words.first());
+    Ok(status)
 }
 
 // Claims what the command of these words may change, and tells whether it prints before all is done.
@@ -65,10 +71,25 @@ fn status_of(
     }
     let status = run_in(rt, words, folder, shows, shared)?;
     folder.wipe();
-    if terminal && status == FOLDER_FAULT {
+    if status == FOLDER_FAULT && (terminal || wants_cause(rt)) {
         tell(rt, folder);
     }
     Ok(status)
+}
+
+// Says on a terminal which words make a command, where these make none.
+fn explain_words(rt: &HostRuntime, status: u8, name: Option<&String>) {
+    if status == BAD_COMMAND_LINE && rt.stderr().is_terminal() {
+        tell_commands(rt, name.map(|name| name.as_str()));
+    }
+}
+
+// Whether the cause of a fault of the folder is asked for where no terminal is: by VAULTMOVE_CAUSE, with exactly this value.
+fn wants_cause(rt: &HostRuntime) -> bool {
+    match env::var(rt, "VAULTMOVE_CAUSE") {
+        Ok(value) => value.as_str() == "1",
+        Err(_) => false,
+    }
 }
 
 // Whether a line on the terminal can be cleared again: not where TERM is `dumb`.

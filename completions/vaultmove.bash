@@ -1,4 +1,4 @@
-# Completion of vaultmove's commands, options, folders and files for bash.
+# Completion of vaultmove's commands, options, folders and files for bash. Written by scripts/words.
 # Folders without the slash at their ends, with which they would be no paths of the program.
 _vaultmove_folders() {
     local folder
@@ -12,10 +12,16 @@ _vaultmove() {
         return
     fi
     case $command in
-        init | mkdir | put) options='--pass --work' ;;
-        ls | cat | fsck | repair) options='--pass' ;;
+        cat) options='--pass' ;;
+        fsck) options='--pass' ;;
+        init) options='--pass --work' ;;
+        ls) options='--pass' ;;
         migrate) options='--from-pass --to-pass --nfc' ;;
-        resume | retire) options='--from-pass --to-pass' ;;
+        mkdir) options='--pass --work' ;;
+        put) options='--pass --work' ;;
+        repair) options='--pass' ;;
+        resume) options='--from-pass --to-pass' ;;
+        retire) options='--from-pass --to-pass' ;;
     esac
     # A value behind `=`, which readline parts from its option.
     if [ "$word" = = ]; then word= before=${COMP_WORDS[COMP_CWORD - 1]}; fi
@@ -31,15 +37,18 @@ _vaultmove() {
             return
             ;;
     esac
-    case $word in
-        -*) mapfile -t COMPREPLY < <(compgen -W "$options" -- "$word") ;;
-        *)
-            if [ "$command" = init ] && [ "$COMP_CWORD" = 2 ]; then
-                mapfile -t COMPREPLY < <(compgen -W 'gocryptfs cryptomator cryptomator-ctrmac' -- "$word")
-            elif [ -n "$options" ]; then
-                _vaultmove_folders "$word"
-            fi
+    if [[ $word == -* ]]; then
+        mapfile -t COMPREPLY < <(compgen -W "$options" -- "$word")
+        return
+    fi
+    case $command:$COMP_CWORD in
+        init:2)
+            mapfile -t COMPREPLY < <(compgen -W 'gocryptfs cryptomator cryptomator-ctrmac' -- "$word")
+            return
             ;;
+    esac
+    case $command in
+        cat | fsck | init | ls | migrate | mkdir | put | repair | resume | retire) _vaultmove_folders "$word" ;;
     esac
 }
 complete -F _vaultmove vaultmove

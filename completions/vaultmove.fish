@@ -1,4 +1,4 @@
-# Completion of vaultmove's commands, options, folders and files for fish.
+# Completion of vaultmove's commands, options, folders and files for fish. Written by scripts/words.
 complete -c vaultmove -f
 set -l commands cat decrypt-file demo fsck init ls migrate mkdir put repair resume retire
 set -l none "not __fish_seen_subcommand_from $commands"
@@ -18,12 +18,10 @@ complete -c vaultmove -n $none -a retire -d 'remove the source of a finished mig
 function __vaultmove_folders
     __fish_complete_directories | string replace -r '/(\t|$)' '$1'
 end
-set -l one '__fish_seen_subcommand_from cat fsck init ls mkdir put repair'
-set -l two '__fish_seen_subcommand_from migrate resume retire'
-complete -c vaultmove -n $one -l pass -r -F -d 'file with the passphrase'
+complete -c vaultmove -n '__fish_seen_subcommand_from cat fsck init ls mkdir put repair' -l pass -r -F -d 'file with the passphrase'
 complete -c vaultmove -n '__fish_seen_subcommand_from init mkdir put' -l work -x -a '(__vaultmove_folders)' -d 'work folder'
-complete -c vaultmove -n $two -l from-pass -r -F -d 'file with the passphrase of the source'
-complete -c vaultmove -n $two -l to-pass -r -F -d 'file with the passphrase of the target'
+complete -c vaultmove -n '__fish_seen_subcommand_from migrate resume retire' -l from-pass -r -F -d 'file with the passphrase of the source'
+complete -c vaultmove -n '__fish_seen_subcommand_from migrate resume retire' -l to-pass -r -F -d 'file with the passphrase of the target'
 complete -c vaultmove -n '__fish_seen_subcommand_from migrate' -l nfc -d 'bring names to normalization form C'
 complete -c vaultmove -n '__fish_seen_subcommand_from init' -a 'gocryptfs cryptomator cryptomator-ctrmac'
-complete -c vaultmove -n "$one; or $two" -a '(__vaultmove_folders)'
+complete -c vaultmove -n '__fish_seen_subcommand_from cat fsck init ls migrate mkdir put repair resume retire' -a '(__vaultmove_folders)'

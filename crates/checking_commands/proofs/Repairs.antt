@@ -30,7 +30,7 @@ use Rattle.checking_commands.specs.Repair.{IsOfMoving, Moved, TooMany, TooDeep, 
 use Rattle.command_opening.specs.Tests.{is_of_moving}
 use Rattle.command_answers.specs.Printing.{PrintsText}
 use Rattle.command_opening.proofs.Printings.{IsPrinted, nothing_printed, printed, printed_is_own}
-use Rattle.command_opening.proofs.Overlaps.{apart_by, by_test, refuses_overlap}
+use Rattle.command_opening.proofs.Overlaps.{apart_by, refuses_overlap}
 use Rattle.command_opening.specs.Shown.{IsCutShort, is_of_end, refused}
 use Rattle.command_opening.specs.World.{World}
 use Rattle.command_answers.specs.declared.answer.Answer.{Answer}
@@ -204,15 +204,6 @@ pub not_repaired : (target : Repairing) (answer : Answer) (w : World) → overla
 not_repaired target answer w overlaps answers = record {
   apart = subst (λ b. Either b (RefusesOverlap target.vault target.lost answer w w) (RepairsApart target answer w.told w.told w.taken w.taken)) (sym overlaps)
       (refuses_overlap target.vault target.lost answer w w.told answers refl);
-  untouched = Keeps-refl w.left;
-  undrawn = refl;
-}
-
--- the command isn't begun
-pub repairs_nothing : (target : Repairing) (w : World) → RepairsVault target OutOfMemory w w
-repairs_nothing target w = record {
-  apart = by_test (overlap target.vault target.lost) _ _ (λ is. refuses_overlap target.vault target.lost OutOfMemory w w.told (inr refl) refl)
-      (λ is. repair_refused target OutOfMemory w.told w.told w.taken refl (λ v seen. inr (inl refl)) (λ v seen opens. inr (inr (inr refl))) (λ test. refl) (inl refl));
   untouched = Keeps-refl w.left;
   undrawn = refl;
 }

@@ -1,5 +1,5 @@
 //! `fsck`: tells what is found in a vault.
-ghost use Rattle.std.specs.Prelude.{◌≡◌, ◌++◌, ◌∷◌, [], Err, IfErr, IfOk, IsTrue, OnOk, ℕ, Bool, List, Option, string_bytes};
+ghost use Rattle.std.specs.Prelude.{◌≡◌, ◌++◌, ◌∷◌, [], Err, IfErr, IfOk, IsTrue, OnOk, ℕ, Bool, List, Option, string_bytes, Some};
 ghost use Rattle.std.specs.Io.KnownBytes.{Keeps};
 ghost use Rattle.folder_spec.specs.View.{View};
 ghost use Rattle.folder_spec.specs.Seen.{IfSeen, IsSeen};
@@ -11,12 +11,14 @@ ghost use Rattle.checking_commands.specs.Fsck.{ChecksVault, ShowsReport, fault_p
 ghost use Rattle.checking_commands.specs.Lines.{answer_to_found, found_line, noted_line, told_text};
 ghost use Rattle.command_opening.specs.Refusing.{Unless};
 ghost use Rattle.command_opening.specs.Shown.{Follows, is_of_opening, refused};
+ghost use Rattle.command_answers.specs.Rows.{Ends};
+ghost use Rattle.command_words.specs.declared.commands.Command.TheVariants.{Fsck};
 
 use crate::faults::answer_to_check;
 use chunk_files::ChunkFault;
 use command_answers::{Answer, finding_name, shown_folder};
 use command_opening::open;
-use command_words::Checking;
+use command_words::commands::Checking;
 use folder_model::{FPath, Folder};
 use port_model::Sink;
 use std::alloc::{AllocError, Global};
@@ -38,6 +40,7 @@ pub fn fsck<F: Folder, O: Sink>(
     ensures own { IsTrue (is_of_checking result) }
     ensures folder_fault { result ≡ Answer.FolderFault → CountRose (F.faults folder.old) (F.faults folder.new) }
     ensures output_fault { result ≡ Answer.OutputFault → CountRose (O.faults out.old) (O.faults out.new) }
+    ensures row { Ends (Some (Fsck target.now)) result }
 {
     roots_have_one_answer();
     tell(alloc, target, folder, out)

@@ -1,5 +1,5 @@
 //! `repair`: moves the strays of a vault into a folder of lost ones.
-ghost use Rattle.std.specs.Prelude.{◌≡◌, ◌⊎◌, ◌++◌, ℕ, Bool, false, List, Option, Err, IfErr, IfOk, IsTrue, OnOk, string_bytes};
+ghost use Rattle.std.specs.Prelude.{◌≡◌, ◌⊎◌, ◌++◌, ℕ, Bool, false, List, Option, Err, IfErr, IfOk, IsTrue, OnOk, string_bytes, Some};
 ghost use Rattle.folder_spec.specs.Seen.{IfSeen};
 ghost use Rattle.port_model.specs.Counts.{CountRose};
 ghost use Rattle.port_model.specs.Draws.{ByteStream};
@@ -9,11 +9,13 @@ ghost use Rattle.command_answers.specs.Printing.{PrintsText};
 ghost use Rattle.command_opening.specs.Refusing.{Unless};
 ghost use Rattle.checking_commands.specs.Repair.{HasMovedStrays, MovesStrays, OfRepairing, RepairsVault, is_of_test, moved_line, moved_text};
 ghost use Rattle.command_opening.specs.Tests.{is_of_moving};
+ghost use Rattle.command_answers.specs.Rows.{Ends};
+ghost use Rattle.command_words.specs.declared.commands.Command.TheVariants.{Repair};
 
 use crate::faults::answer_to_check;
 use command_answers::{Answer, print, shown_folder};
 use command_opening::{do_overlap, open, overlapping, test_free};
-use command_words::Repairing;
+use command_words::commands::Repairing;
 use folder_model::{FPath, Folder};
 use port_model::Sink;
 use std::alloc::{AllocError, Global};
@@ -33,6 +35,7 @@ pub fn repair<F: Folder, O: Sink>(
         (record { told = F.told folder.new; left = left; ended = ended; taken = O.taken out.new; random = random }) }
     ensures folder_fault { result ≡ Answer.FolderFault → CountRose (F.faults folder.old) (F.faults folder.new) }
     ensures output_fault { result ≡ Answer.OutputFault → CountRose (O.faults out.old) (O.faults out.new) }
+    ensures row { Ends (Some (Repair target.now)) result }
 {
     if do_overlap(&target.vault, &target.lost) {
         return overlapping(&target.vault, &target.lost);

@@ -5,30 +5,19 @@ use Rattle.std.proofs.lemmas.Bool.{or_left}
 use Rattle.std.proofs.lemmas.Bool.Decides.{nat_tests}
 use Rattle.command_answers.specs.Answers.{status_of}
 use Rattle.command_answers.specs.Messages.{IsReported}
-use Rattle.command_answers.specs.Rows.{is_among, may_end, may_end_told, row_of}
+use Rattle.command_answers.specs.Rows.{contradicted_of, is_among, may_end, may_end_told}
 use Rattle.command_answers.specs.declared.answer.Answer.{Answer}
 use Rattle.command_answers.specs.declared.answer.Answer.TheVariants.{Done, Findings, BadCommandLine, OutOfMemory, FolderFault, InputFault, OutputFault, RandomFault, Refused, WrongPass, NotFound, WrongKind, DamagedInput, Damaged, NotAllowed, NotClean, Overlap, NotEmpty, Begun, Unusable, Changed, Differ, ZeroRandom, Taken, Limit, Retired, Meet}
 use Rattle.command_words.specs.declared.commands.Command.{Command}
-use Rattle.command_words.specs.declared.commands.Command.TheVariants.{DecryptFile, Init, Ls, Cat, Fsck, Mkdir, Put, Repair, Migrate, Resume, Retire, Demo}
+use Rattle.command_words.specs.declared.commands.Command.TheVariants.{Demo}
 
 -- memory may be refused to each command
-always_memory : (command : Option Command) → IsTrue (may_end_told command 3)
+pub always_memory : (command : Option Command) → IsTrue (may_end_told command 3)
 always_memory None = refl
-always_memory (Some (DecryptFile key)) = refl
-always_memory (Some (Init new)) = refl
-always_memory (Some (Ls target)) = refl
-always_memory (Some (Cat target)) = refl
-always_memory (Some (Put change)) = refl
-always_memory (Some (Mkdir change)) = refl
-always_memory (Some (Fsck checking)) = refl
-always_memory (Some (Repair repairing)) = refl
-always_memory (Some (Migrate moving)) = refl
-always_memory (Some (Resume resuming)) = refl
-always_memory (Some (Retire resuming)) = refl
-always_memory (Some (Demo demonstration)) = refl
+always_memory (Some command) = refl
 
-memory_or_told : (command : Option Command) → IsTrue (may_end command 3)
-memory_or_told command = or_left (may_end_told command 3) (is_among (row_of command).contradicted 3) (always_memory command)
+pub memory_or_told : (command : Option Command) → IsTrue (may_end command 3)
+memory_or_told command = or_left (may_end_told command 3) (is_among (contradicted_of command) 3) (always_memory command)
 
 -- what holds of the status of an answer and of 3 holds of what is reported
 by_report : (p : ℕ → Bool) (answer reported : Answer) → IsTrue (p 3) → IsReported answer reported → IsTrue (p (status_of answer)) → IsTrue (p (status_of reported))
@@ -41,21 +30,14 @@ reported_any command answer reported = by_report (may_end command) answer report
 pub reported_told : (command : Option Command) (answer reported : Answer) → IsReported answer reported → IsTrue (may_end_told command (status_of answer)) → IsTrue (may_end_told command (status_of reported))
 reported_told command answer reported = by_report (may_end_told command) answer reported (always_memory command)
 
--- no row of a command has 2
+-- no row of a command has 2: the first clause takes one, and the last each of the others
+not_bad : (command : Command) → ¬ IsTrue (may_end (Some command) 2)
+not_bad (Demo demonstration) may = cc
+not_bad other may = cc
+
 pub bad_is_none : (command : Option Command) → IsTrue (may_end command 2) → IsNone command
 bad_is_none None may = refl
-bad_is_none (Some (DecryptFile key)) may = cc
-bad_is_none (Some (Init new)) may = cc
-bad_is_none (Some (Ls target)) may = cc
-bad_is_none (Some (Cat target)) may = cc
-bad_is_none (Some (Put change)) may = cc
-bad_is_none (Some (Mkdir change)) may = cc
-bad_is_none (Some (Fsck checking)) may = cc
-bad_is_none (Some (Repair repairing)) may = cc
-bad_is_none (Some (Migrate moving)) may = cc
-bad_is_none (Some (Resume resuming)) may = cc
-bad_is_none (Some (Retire resuming)) may = cc
-bad_is_none (Some (Demo demonstration)) may = cc
+bad_is_none (Some command) may = absurd (not_bad command may)
 
 -- and words that make none end with 2 or 3
 pub none_is_bad : (status : ℕ) → IsTrue (may_end None status) → (status ≡ 2) ⊎ (status ≡ 3)

@@ -1,5 +1,5 @@
 -- How a command ends: the status of each answer, and the answers to faults that all commands share.
-use Rattle.std.specs.Prelude.{ℕ}
+use Rattle.std.specs.Prelude.{ℕ, ⊤}
 use Rattle.folder_spec.specs.declared.FolderFault as folders
 use Rattle.folder_spec.specs.declared.FolderFault.TheVariants as folder
 use Rattle.command_answers.specs.declared.answer.Answer.{Answer}
@@ -39,3 +39,11 @@ abbrev pub of_folder : folders.FolderFault → Answer
 of_folder folder.Failed = FolderFault
 of_folder folder.Refused = FolderFault
 of_folder folder.NoMemory = OutOfMemory
+
+-- What an answer blames: where it names a fault of the folder, of the input, of the output or of the random source, this holds of that one.
+abbrev pub Blames : Answer → (folder input output random : Type 0) → Type 0
+Blames FolderFault folder input output random = folder
+Blames InputFault folder input output random = input
+Blames OutputFault folder input output random = output
+Blames RandomFault folder input output random = random
+Blames answer folder input output random = ⊤

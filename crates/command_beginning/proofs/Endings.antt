@@ -1,5 +1,5 @@
 -- A command that makes something beside a work folder, and where it doesn't come to that.
-use Rattle.std.proofs.Common.{◌≡◌, ◌⊎◌, Bool, true, false, [], Option, inl, inr, refl, sym, subst, IsTrue}
+use Rattle.std.proofs.Common.{◌≡◌, ◌⊎◌, Bool, true, false, [], Option, inl, sym, subst, IsTrue}
 use Rattle.std.specs.Io.KnownBytes.{Keeps}
 use Rattle.std.proofs.KnownBytes.{Keeps-refl}
 use Rattle.folder_spec.specs.Path.{Path}
@@ -14,7 +14,6 @@ use Rattle.command_opening.specs.Refusing.{Unless}
 use Rattle.command_opening.specs.World.{World}
 use Rattle.command_beginning.specs.Beginning.{ChangesWork, EndsBefore, MakesApart, MakesBeside}
 use Rattle.command_beginning.proofs.Beginnings.{went_alone}
-use Rattle.command_beginning.proofs.Sites.{begins_nowhere}
 use Rattle.command_answers.specs.declared.answer.Answer.{Answer}
 use Rattle.command_answers.specs.declared.answer.Answer.TheVariants.{OutOfMemory, Overlap}
 
@@ -41,7 +40,3 @@ module _ (is_own : Answer → Bool) (vault work : Path) (Tests : View → Type 0
         (λ apart. record { cause = refuses apart; comes = inl (ends_before is_own work answer w (record w { told = told }) (own apart) begins (none_drawn w.random) (Keeps-refl w.left)) });
     unwritten = Keeps-refl w.taken;
   }
-
-  -- there was no memory for the command at first
-  pub makes_nothing : IsTrue (is_own OutOfMemory) → (w : World) → MakesBeside is_own vault work Tests Makes OutOfMemory w w
-  makes_nothing own w = ended_before OutOfMemory w w.told (λ is. (inr refl, refl)) (λ apart v is. inr (inl refl)) (λ apart. own) (begins_nowhere work w.told w.told refl)

@@ -14,7 +14,7 @@ ghost use Rattle.content_writing.specs.Placing.{MayMake};
 
 use command_answers::{Answer, Limit, Named};
 use command_opening::{do_overlap, load, overlapping, read_pass};
-use command_words::Change;
+use command_words::commands::Change;
 use folder_model::{FPath, Folder};
 use folder_spec::laws::roots_show_their_own;
 use std::alloc::Global;

@@ -1,5 +1,5 @@
 mod OptionsRead
-mod SmallDemonstrations
 mod ValuesRead
+mod WrittenCommands
 mod WrittenNumbers
 mod WrittenValues

@@ -1,9 +1,7 @@
 -- Values are read one after the other.
-use Rattle.std.proofs.Common.{◌≡◌, ◌++◌, All, List, [], ◌∷◌, Option, None, Some, ap, append_assoc, arith, option_map, subst, sym, ◌∙◌}
-use Rattle.std.proofs.lemmas.List.Elements.{All-append}
+use Rattle.std.proofs.Common.{◌≡◌, ◌++◌, List, [], ◌∷◌, Option, None, Some, ap, append_assoc, option_map, subst, ◌∙◌}
 use Rattle.command_words.specs.declared.values.Value.{Value}
 use Rattle.command_words.specs.Values.{joined}
-use Rattle.command_words.specs.Written.{IsWritten}
 
 one_more_of : (value : Value) (before now : List Value) (rest whole : Option (List Value)) → now ≡ before ++ value ∷ []
     → option_map (λ more. before ++ more) (joined (Some value) rest) ≡ whole → option_map (λ more. now ++ more) rest ≡ whole
@@ -15,9 +13,3 @@ pub one_more : (first : Option Value) (value : Value) (before now : List Value) 
     → first ≡ Some value → here ≡ joined first rest → option_map (λ more. before ++ more) here ≡ whole → option_map (λ more. now ++ more) rest ≡ whole
 one_more first value before now here rest whole is read found all =
     one_more_of value before now rest whole is (subst (λ it. option_map (λ more. before ++ more) it ≡ whole) (found ∙ ap (λ it. joined it rest) read) all)
-
-alone : (value : Value) → IsWritten value → All IsWritten (value ∷ [])
-alone value one = grind (arith)
-
-pub all_written : (value : Value) (before now : List Value) → now ≡ before ++ value ∷ [] → All IsWritten before → IsWritten value → All IsWritten now
-all_written value before now is all one = subst (All IsWritten) (sym is) (All-append IsWritten before (value ∷ []) all (alone value one))

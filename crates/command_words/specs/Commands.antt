@@ -1,12 +1,11 @@
--- The command that words make: the row of the first word's name is read over the others, and its values, in their order, are the
--- command's arguments. Any other words make none.
+-- The command that words make: the values of what they ask for, in their order, are the arguments of the command. Any other words make none.
 use Rattle.std.specs.Prelude.{ℕ, Bool, true, false, List, [], ◌∷◌, drop, Option, None, Some, option_map, option_and_then}
 use Rattle.folder_spec.specs.Path.{Path}
 use Rattle.plain_tree.specs.Names as plain
 use Rattle.plain_tree.specs.declared.name_map.NameMap.{NameMap}
 use Rattle.plain_tree.specs.declared.name_map.NameMap.TheVariants.{Same, Nfc}
-use Rattle.command_words.specs.Rows.{Row, row_named}
-use Rattle.command_words.specs.Values.{flag_value, folder_value, format_value, key_value, number_value, plain_value, written}
+use Rattle.command_words.specs.Requests.{Request, request_of}
+use Rattle.command_words.specs.Values.{flag_value, folder_value, format_value, key_value, number_value, plain_value}
 use Rattle.command_words.specs.declared.commands.Change.{Change}
 use Rattle.command_words.specs.declared.commands.Checking.{Checking}
 use Rattle.command_words.specs.declared.commands.Command.{Command}
@@ -134,10 +133,24 @@ command_by verb.Resume values = option_map command.Resume (resuming_of values)
 command_by verb.Retire values = option_map command.Retire (resuming_of values)
 command_by verb.Demo values = option_map command.Demo (demonstration_of values)
 
-abbrev pub command_in : List (List ℕ) → Row → Option Command
-command_in words row = option_and_then (command_by row.verb) (written row words)
+abbrev pub command_in : Request → Option Command
+command_in request = command_by request.row.verb request.values
 
 -- the command that words make
 abbrev pub command_of : List (List ℕ) → Option Command
-command_of [] = None
-command_of (name ∷ rest) = option_and_then (command_in rest) (row_named name)
+command_of words = option_and_then command_in (request_of words)
+
+-- which command it is
+abbrev pub verb_of : Command → Verb
+verb_of (command.DecryptFile key) = verb.DecryptFile
+verb_of (command.Init new) = verb.Init
+verb_of (command.Mkdir change) = verb.Mkdir
+verb_of (command.Put change) = verb.Put
+verb_of (command.Ls target) = verb.Ls
+verb_of (command.Cat target) = verb.Cat
+verb_of (command.Fsck checking) = verb.Fsck
+verb_of (command.Repair repairing) = verb.Repair
+verb_of (command.Migrate moving) = verb.Migrate
+verb_of (command.Resume resuming) = verb.Resume
+verb_of (command.Retire resuming) = verb.Retire
+verb_of (command.Demo demonstration) = verb.Demo

@@ -1,4 +1,4 @@
-pub mod Claims
+pub mod Requests
 pub mod Commands
 pub mod Numbers
 pub mod Rows

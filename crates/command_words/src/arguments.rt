@@ -15,6 +15,7 @@ ghost use Rattle.command_words.specs.Words.{
   value_in,
 };
 
+use crate::rows::Flag;
 use std::alloc::{AllocError, Global};
 use std::marker::Model;
 
@@ -54,10 +55,10 @@ impl<'a> Arguments<'a> {
     /// The options and positional words among the words behind the name of a command with these flags.
     pub(crate) fn of(
         alloc: Global,
-        flags: &[&str],
+        flags: &[Flag],
         words: &'a [String],
     ) -> Result<Arguments<'a>, AllocError>
-        ensures { IfOk result (λ arguments. arguments ≡ arguments_of (map (λ flag. flag.now) flags.now) (map string_bytes words.now)) }
+        ensures { IfOk result (λ arguments. arguments ≡ arguments_of (map (λ flag. flag.name.now) flags.now) (map string_bytes words.now)) }
     {
         let (front, behind) = parted(words);
         let choices = choices_in(alloc, flags, front)?;
@@ -108,10 +109,10 @@ fn end_of(words: &[String]) -> usize
 
 fn choices_in<'a>(
     alloc: Global,
-    flags: &[&str],
+    flags: &[Flag],
     words: &'a [String],
 ) -> Result<Vec<Choice<'a>>, AllocError>
-    ensures { IfOk result (λ choices. choices.items ≡ choices_in (map (λ flag. flag.now) flags.now) (map string_bytes words.now)) }
+    ensures { IfOk result (λ choices. choices.items ≡ choices_in (map (λ flag. flag.name.now) flags.now) (map string_bytes words.now)) }
 {
     let mut choices = Vec::new(alloc);
     let mut rest = words;
@@ -125,15 +126,15 @@ fn choices_in<'a>(
 }
 
 // The option that a word is, by the words behind it.
-fn choice_of<'a>(flags: &[&str], word: &'a str, rest: &'a [String]) -> Choice<'a>
-    ensures { result ≡ choice_of (map (λ flag. flag.now) flags.now) word.now (map string_bytes rest.now) }
+fn choice_of<'a>(flags: &[Flag], word: &'a str, rest: &'a [String]) -> Choice<'a>
+    ensures { result ≡ choice_of (map (λ flag. flag.name.now) flags.now) word.now (map string_bytes rest.now) }
 {
     match word.split_once('=') {
         Some((name, value)) => Choice {
             name,
             value: Some(value),
         },
-        None if is_among(word, flags) => Choice {
+        None if is_flag(word, flags) => Choice {
             name: word,
             value: None,
         },
@@ -157,10 +158,10 @@ fn value_in(rest: &[String]) -> Option<&str>
 // The words that are neither options nor their values.
 fn positional_in<'a>(
     alloc: Global,
-    flags: &[&str],
+    flags: &[Flag],
     words: &'a [String],
 ) -> Result<Vec<&'a str>, AllocError>
-    ensures { IfOk result (λ positional. map (λ word. word.now) positional.items ≡ positional_in (map (λ flag. flag.now) flags.now) false (map string_bytes words.now)) }
+    ensures { IfOk result (λ positional. map (λ word. word.now) positional.items ≡ positional_in (map (λ flag. flag.name.now) flags.now) false (map string_bytes words.now)) }
 {
     let mut positional = Vec::new(alloc);
     let mut taken = false;
@@ -199,12 +200,12 @@ fn is_option(word: &str) -> bool
     begins_with_dash(word) && word.len() > 1
 }
 
-/// Whether this name is one of these.
-pub(crate) fn is_among(name: &str, names: &[&str]) -> bool
-    ensures { result ≡ is_among name.now (map (λ name. name.now) names.now) }
+/// Whether this is the name of one of these flags.
+pub(crate) fn is_flag(name: &str, flags: &[Flag]) -> bool
+    ensures { result ≡ is_among name.now (map (λ flag. flag.name.now) flags.now) }
 {
-    for each in names {
-        if *each == name {
+    for flag in flags {
+        if flag.name == name {
             return true;
         }
     }
@@ -212,8 +213,8 @@ pub(crate) fn is_among(name: &str, names: &[&str]) -> bool
 }
 
 // Whether the next word is the value of this one.
-fn takes_next(flags: &[&str], word: &str) -> bool
-    ensures { result ≡ takes_next (map (λ flag. flag.now) flags.now) word.now }
+fn takes_next(flags: &[Flag], word: &str) -> bool
+    ensures { result ≡ takes_next (map (λ flag. flag.name.now) flags.now) word.now }
 {
-    is_option(word) && word.split_once('=').is_none() && !is_among(word, flags)
+    is_option(word) && word.split_once('=').is_none() && !is_flag(word, flags)
 }

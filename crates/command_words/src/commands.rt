@@ -1,11 +1,10 @@
 //! The commands, and the words that make them.
 ghost use Rattle.std.specs.Prelude.{◌≡◌, IfOk, IfSome, map, string_bytes};
 ghost use Rattle.command_words.specs.Commands.{command_of};
-ghost use Rattle.command_words.specs.Written.{HasTexts};
+ghost use Rattle.command_words.specs.Written.{HasTexts, IsSmall};
 
 use crate::making::command;
-use crate::reading::values_of_words;
-use crate::rows::row_named;
+use crate::request::Request;
 use crate::values::Format;
 use folder_model::FPath;
 use plain_tree::{NameMap, PlainPath};
@@ -85,30 +84,30 @@ pub struct Demonstration {
 /// A command with its arguments.
 #[derive(Drop)]
 pub enum Command {
-    /// `decrypt-file KEYHEX`: decrypts a gocryptfs content file from the input under this content key.
+    /// `decrypt-file`: decrypts a gocryptfs content file from the input under this content key.
     DecryptFile([u8; 32]),
-    /// `init KIND VAULT --pass FILE --work WORK`: makes a vault.
+    /// `init`: makes a vault.
     Init(NewVault),
-    /// `ls VAULT [PATH] --pass FILE`: lists a directory, the root without PATH.
+    /// `ls`: lists a directory, the root without PATH.
     Ls(Target),
-    /// `cat VAULT PATH --pass FILE`: writes a file's content.
+    /// `cat`: writes a file's content.
     Cat(Target),
-    /// `fsck VAULT --pass FILE`: tells what is found in a vault.
+    /// `fsck`: tells what is found in a vault.
     Fsck(Checking),
-    /// `mkdir VAULT PATH --pass FILE --work WORK`: makes a directory.
+    /// `mkdir`: makes a directory.
     Mkdir(Change),
-    /// `put VAULT PATH --pass FILE --work WORK`: stores the input as a file.
+    /// `put`: stores the input as a file.
     Put(Change),
-    /// `repair VAULT LOST --pass FILE`: moves the strays of a vault into a new folder.
+    /// `repair`: moves the strays of a vault into a new folder.
     Repair(Repairing),
-    /// `migrate FROM TO WORK --from-pass FILE --to-pass FILE [--nfc]`: moves a whole tree from one vault into another, its names in NFC
+    /// `migrate`: moves a whole tree from one vault into another, its names in NFC
     /// where the flag stands.
     Migrate(Moving),
-    /// `resume WORK --from-pass FILE --to-pass FILE`: goes on with a migration.
+    /// `resume`: goes on with a migration.
     Resume(Resuming),
-    /// `retire WORK --from-pass FILE --to-pass FILE`: removes the source of a finished migration.
+    /// `retire`: removes the source of a finished migration.
     Retire(Resuming),
-    /// `demo SEED COUNT`: makes a tree of so many items from a number, and moves it there and back in memory.
+    /// `demo`: makes a tree of so many items from a number, and moves it there and back in memory.
     Demo(Demonstration),
 }
 
@@ -117,15 +116,10 @@ impl Command {
     pub fn from_words(alloc: Global, words: &[String]) -> Result<Option<Command>, AllocError>
         ensures is { IfOk result (λ command. command ≡ command_of (map string_bytes words.now)) }
         ensures texts { IfOk result (λ command. IfSome command HasTexts) }
+        ensures small { IfOk result (λ command. IfSome command IsSmall) }
     {
-        let Some((name, rest)) = words.split_first() else {
-            return Ok(None);
-        };
-        let Some(row) = row_named(name.as_str()) else {
-            return Ok(None);
-        };
-        match values_of_words(alloc, &row, rest)? {
-            Some(values) => Ok(command(row.verb, values)),
+        match Request::read(alloc, words)? {
+            Some(request) => Ok(command(request.row.verb, request.values)),
             None => Ok(None),
         }
     }

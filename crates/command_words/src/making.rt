@@ -1,10 +1,8 @@
 //! Commands are made of what their words write, which is taken in the order of the row.
-ghost use Rattle.std.specs.Prelude.{◌≡◌, All, IfSome, drop};
+ghost use Rattle.std.specs.Prelude.{◌≡◌, IfSome, drop};
 ghost use Rattle.std.specs.Vec.Iter.{into_iter_items};
-ghost use Rattle.move_journal.specs.Journal.{IsParsed};
 ghost use Rattle.command_words.specs.Commands.{change_of, checking_of, command_by, demonstration_of, first, moving_of, names_by, new_vault_of, passes_of, repairing_of, resuming_of, second, target_of};
 ghost use Rattle.command_words.specs.Values.{folder_value};
-ghost use Rattle.command_words.specs.Written.{HasTexts, IsWritten};
 
 use crate::commands::{
     Change, Checking, Command, Demonstration, Moving, NewVault, Passes, Repairing, Resuming, Target,
@@ -18,9 +16,7 @@ use std::vec::IntoIter;
 
 /// The command of what its words write.
 pub(crate) fn command(verb: Verb, values: Vec<Value>) -> Option<Command>
-    requires { All IsWritten values.items }
-    ensures is { result ≡ command_by verb values.items }
-    ensures texts { IfSome result HasTexts }
+    ensures { result ≡ command_by verb values.items }
 {
     let mut values = values.into_iter();
     match verb {
@@ -90,9 +86,7 @@ fn repairing(values: &mut IntoIter<Value>) -> Option<Repairing>
 }
 
 fn moving(values: &mut IntoIter<Value>) -> Option<Moving>
-    requires { All IsWritten (into_iter_items values.old) }
-    ensures is { result ≡ moving_of (into_iter_items values.old) }
-    ensures written { IfSome result (λ moving. IsParsed moving.source × IsParsed moving.target) }
+    ensures { result ≡ moving_of (into_iter_items values.old) }
 {
     let source = next_folder(values)?;
     let target = next_folder(values)?;

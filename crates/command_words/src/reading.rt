@@ -1,14 +1,15 @@
 //! What the words behind a command's name write, by the command's row.
 ghost use Rattle.std.specs.List.{list_all};
 ghost use Rattle.std.specs.Slice.Iter.{iter_rest};
-ghost use Rattle.std.specs.Prelude.{◌≡◌, ◌==◌, ◌++◌, ◌∷◌, All, IfOk, IfSome, MatchOption, None, map, nat_le, option_map, string_bytes};
-ghost use Rattle.command_words.specs.Rows.{option_of_code, row_of_code};
+ghost use Rattle.std.specs.Prelude.{◌≡◌, ◌==◌, ◌++◌, ◌∷◌, IfOk, IfSome, List, MatchOption, None, map, nat_le, option_map, string_bytes};
+ghost use Rattle.command_words.specs.Rows.{kinds_of, option_of_code, row_of_code};
 ghost use Rattle.command_words.specs.Words.{is_among};
+ghost use Rattle.command_words.specs.declared.rows.Kind.{Kind};
 ghost use Rattle.command_words.specs.Values.{fits, flag_values, is_of, joined, may_lack, option_values, times, value_by, value_named, values_in, values_of, written};
-ghost use Rattle.command_words.specs.Written.{IsWritten};
+ghost use Rattle.command_words.specs.Written.{AllWritten, EachWritten};
 
-use crate::arguments::{Arguments, Choice, is_among};
-use crate::rows::{Kind, Row, Valued};
+use crate::arguments::{Arguments, Choice, is_flag};
+use crate::rows::{Flag, Kind, Row, Valued, Word};
 use crate::values::{Value, value_of};
 use std::alloc::{AllocError, Global};
 use std::slice::Iter;
@@ -21,7 +22,7 @@ pub(crate) fn values_of_words(
     words: &[String],
 ) -> Result<Option<Vec<Value>>, AllocError>
     ensures is { IfOk result (λ values. option_map (λ all. all.items) values ≡ written (row_of_code row.now) (map string_bytes words.now)) }
-    ensures written { IfOk result (λ values. IfSome values (λ all. All IsWritten all.items)) }
+    ensures written { IfOk result (λ values. IfSome values (λ all. AllWritten (kinds_of (row_of_code row.now)) all.items)) }
 {
     let arguments = Arguments::of(alloc, row.flags, words)?;
     values_in(alloc, row, &arguments)
@@ -34,7 +35,7 @@ fn values_in(
     arguments: &Arguments,
 ) -> Result<Option<Vec<Value>>, AllocError>
     ensures is { IfOk result (λ values. option_map (λ all. all.items) values ≡ values_in (row_of_code row.now) arguments.now) }
-    ensures written { IfOk result (λ values. IfSome values (λ all. All IsWritten all.items)) }
+    ensures written { IfOk result (λ values. IfSome values (λ all. AllWritten (kinds_of (row_of_code row.now)) all.items)) }
 {
     let choices = arguments.choices();
     if !fits(row, choices) {
@@ -55,11 +56,8 @@ fn together(
     mut options: Vec<Value>,
     mut flags: Vec<Value>,
 ) -> Result<Vec<Value>, AllocError>
-    requires values { All IsWritten values.items }
-    requires options { All IsWritten options.items }
-    requires flags { All IsWritten flags.items }
     ensures is { IfOk result (λ all. all.items ≡ values.items ++ options.items ++ flags.items) }
-    ensures written { IfOk result (λ all. All IsWritten all.items) }
+    ensures written { (kinds more : List Kind) → EachWritten kinds values.items → EachWritten more options.items → IfOk result (λ all. AllWritten (kinds ++ more) all.items) }
 {
     values.append(&mut options)?;
     values.append(&mut flags)?;
@@ -84,11 +82,11 @@ fn are_once(options: &[Valued], choices: &[Choice]) -> bool
     true
 }
 
-fn are_once_at_most(flags: &[&str], choices: &[Choice]) -> bool
-    ensures { result ≡ list_all (λ flag. nat_le (times flag choices.now) 1) (map (λ flag. flag.now) flags.now) }
+fn are_once_at_most(flags: &[Flag], choices: &[Choice]) -> bool
+    ensures { result ≡ list_all (λ flag. nat_le (times flag choices.now) 1) (map (λ flag. flag.name.now) flags.now) }
 {
     for flag in flags {
-        if times(flag, choices) > 1 {
+        if times(flag.name, choices) > 1 {
             return false;
         }
     }
@@ -111,7 +109,7 @@ fn is_of(row: &Row, choice: &Choice) -> bool
     ensures { result ≡ is_of (row_of_code row.now) choice.now }
 {
     is_option_of(row.options, choice.name)
-        || is_among(choice.name, row.flags) && choice.value.is_none()
+        || is_flag(choice.name, row.flags) && choice.value.is_none()
 }
 
 fn is_option_of(options: &[Valued], name: &str) -> bool
@@ -141,23 +139,23 @@ fn times(name: &str, choices: &[Choice]) -> usize
 // What positional words write.
 fn words_read<'a>(
     alloc: Global,
-    kinds: &[Kind],
+    shown: &[Word],
     words: &'a [&'a str],
 ) -> Result<Option<Vec<Value>>, AllocError>
-    ensures is { IfOk result (λ values. option_map (λ all. all.items) values ≡ values_of kinds.now (map (λ word. word.now) words.now)) }
-    ensures written { IfOk result (λ values. IfSome values (λ all. All IsWritten all.items)) }
+    ensures is { IfOk result (λ values. option_map (λ all. all.items) values ≡ values_of (map (λ it. it.kind) shown.now) (map (λ word. word.now) words.now)) }
+    ensures written { IfOk result (λ values. IfSome values (λ all. EachWritten (map (λ it. it.kind) shown.now) all.items)) }
 {
     let mut values = Vec::new(alloc);
-    let (mut kinds, mut words) = (kinds, words.iter());
-    while let Some((kind, more)) = kinds.split_first() {
-        let Some(word) = next_word(*kind, more, &mut words) else {
+    let (mut shown, mut words) = (shown, words.iter());
+    while let Some((one, more)) = shown.split_first() {
+        let Some(word) = next_word(one.kind, more, &mut words) else {
             return Ok(None);
         };
-        let Some(value) = value_of(alloc, *kind, word)? else {
+        let Some(value) = value_of(alloc, one.kind, word)? else {
             return Ok(None);
         };
         values.push(value)?;
-        kinds = more;
+        shown = more;
     }
     if words.next().is_none() {
         Ok(Some(values))
@@ -166,10 +164,10 @@ fn words_read<'a>(
     }
 }
 
-// Takes the word of this kind, before words of these kinds: the empty text where it is left out.
-fn next_word<'a>(kind: Kind, more: &[Kind], words: &mut Iter<'a, &'a str>) -> Option<&'a str>
-    ensures { MatchOption result (values_of (kind ∷ more.now) (map (λ word. word.now) (iter_rest words.old)) ≡ None)
-        (λ found. values_of (kind ∷ more.now) (map (λ word. word.now) (iter_rest words.old)) ≡ joined (value_by kind found.now) (values_of more.now (map (λ word. word.now) (iter_rest words.new)))) }
+// Takes the word of this kind, before these words: the empty text where it is left out.
+fn next_word<'a>(kind: Kind, more: &[Word], words: &mut Iter<'a, &'a str>) -> Option<&'a str>
+    ensures { MatchOption result (values_of (kind ∷ map (λ it. it.kind) more.now) (map (λ word. word.now) (iter_rest words.old)) ≡ None)
+        (λ found. values_of (kind ∷ map (λ it. it.kind) more.now) (map (λ word. word.now) (iter_rest words.old)) ≡ joined (value_by kind found.now) (values_of (map (λ it. it.kind) more.now) (map (λ word. word.now) (iter_rest words.new)))) }
 {
     match words.next() {
         Some(word) => Some(*word),
@@ -178,9 +176,9 @@ fn next_word<'a>(kind: Kind, more: &[Kind], words: &mut Iter<'a, &'a str>) -> Op
     }
 }
 
-// Whether a word of this kind may be left out, before these kinds.
-fn may_lack(kind: Kind, more: &[Kind]) -> bool
-    ensures { result ≡ may_lack kind more.now }
+// Whether a word of this kind may be left out, before these words.
+fn may_lack(kind: Kind, more: &[Word]) -> bool
+    ensures { result ≡ may_lack kind (map (λ it. it.kind) more.now) }
 {
     match (kind, more) {
         (Kind::PlainPathOrRoot, []) => true,
@@ -195,14 +193,14 @@ fn options_read(
     choices: &[Choice],
 ) -> Result<Option<Vec<Value>>, AllocError>
     ensures is { IfOk result (λ values. option_map (λ all. all.items) values ≡ option_values choices.now (map option_of_code options.now)) }
-    ensures written { IfOk result (λ values. IfSome values (λ all. All IsWritten all.items)) }
+    ensures written { IfOk result (λ values. IfSome values (λ all. EachWritten (map (λ valued. valued.kind) (map option_of_code options.now)) all.items)) }
 {
     let mut values = Vec::new(alloc);
     for valued in options {
         let Some(text) = value_named(choices, valued.name) else {
             return Ok(None);
         };
-        let Some(value) = value_of(alloc, valued.kind, text)? else {
+        let Some(value) = value_of(alloc, valued.value.kind, text)? else {
             return Ok(None);
         };
         values.push(value)?;
@@ -223,13 +221,12 @@ fn value_named<'a>(choices: &[Choice<'a>], name: &str) -> Option<&'a str>
 }
 
 // Which flags are there.
-fn flags_read(alloc: Global, flags: &[&str], choices: &[Choice]) -> Result<Vec<Value>, AllocError>
-    ensures is { IfOk result (λ values. values.items ≡ flag_values choices.now (map (λ flag. flag.now) flags.now)) }
-    ensures written { IfOk result (λ values. All IsWritten values.items) }
+fn flags_read(alloc: Global, flags: &[Flag], choices: &[Choice]) -> Result<Vec<Value>, AllocError>
+    ensures { IfOk result (λ values. values.items ≡ flag_values choices.now (map (λ flag. flag.name.now) flags.now)) }
 {
     let mut values = Vec::new(alloc);
     for flag in flags {
-        values.push(Value::Flag(times(flag, choices) == 1))?;
+        values.push(Value::Flag(times(flag.name, choices) == 1))?;
     }
     Ok(values)
 }

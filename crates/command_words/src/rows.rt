@@ -1,10 +1,10 @@
-//! The commands: a row for each.
+//! The commands: a row for each, from which come its words, its claims, its statuses and what is told of it. `scripts/words` reads this text.
 ghost use Rattle.std.specs.Prelude.{◌≡◌, map, option_map};
 ghost use Rattle.command_words.specs.Rows.{row_in, row_named, row_of_code};
 
 /// What a word writes.
 #[derive(Clone, Copy, Drop)]
-pub(crate) enum Kind {
+pub enum Kind {
     /// A path of the folder.
     FolderPath,
     /// A path in a vault.
@@ -21,7 +21,7 @@ pub(crate) enum Kind {
 
 /// Which command it is.
 #[derive(Clone, Copy, Drop)]
-pub(crate) enum Verb {
+pub enum Verb {
     DecryptFile,
     Init,
     Ls,
@@ -36,176 +36,331 @@ pub(crate) enum Verb {
     Demo,
 }
 
-/// An option, and what its value writes.
+/// A word: how it is shown, and what it writes.
 #[derive(Clone, Copy, Drop)]
-pub(crate) struct Valued {
-    pub name: &'static str,
+pub struct Word {
+    pub shown: &'static str,
     pub kind: Kind,
 }
 
-/// A command: its name, what its positional words write, its options, each of which stands once, and its flags, each of which stands once
-/// at most and has no value.
+/// An option, its value, and what that is.
 #[derive(Clone, Copy, Drop)]
-pub(crate) struct Row {
+pub struct Valued {
+    pub name: &'static str,
+    pub value: Word,
+    pub line: &'static str,
+}
+
+/// A flag, and what it does.
+#[derive(Clone, Copy, Drop)]
+pub struct Flag {
+    pub name: &'static str,
+    pub line: &'static str,
+}
+
+/// A folder that is claimed: the value with this number, of the words and then of the options, or a root that the journal in the first
+/// value names.
+#[derive(Clone, Copy, Drop)]
+pub enum Place {
+    Value(usize),
+    JournalSource,
+    JournalTarget,
+}
+
+/// A claim of a folder.
+#[derive(Clone, Copy, Drop)]
+pub enum Claim {
+    /// Beside runs that read it too.
+    Shared(Place),
+    Alone(Place),
+}
+
+/// A command: its name, and a line of what it does; its positional words; its options, each of which stands once; its flags, each of which
+/// stands once at most and has no value; what it claims before it changes anything; the two folders that have to be on one file system;
+/// whether it prints before all is done; its statuses beside 0 and 3; and those of a folder alone that contradicts itself.
+#[derive(Clone, Copy, Drop)]
+pub struct Row {
     pub verb: Verb,
     pub name: &'static str,
-    pub words: &'static [Kind],
+    pub line: &'static str,
+    pub words: &'static [Word],
     pub options: &'static [Valued],
-    pub flags: &'static [&'static str],
+    pub flags: &'static [Flag],
+    pub claims: &'static [Claim],
+    pub one_file_system: Option<(Place, Place)>,
+    pub streams: bool,
+    pub statuses: &'static [u8],
+    pub contradicted: &'static [u8],
 }
+
+const KEYHEX: Word = Word {
+    shown: "KEYHEX",
+    kind: Kind::Key,
+};
+
+const KIND: Word = Word {
+    shown: "KIND",
+    kind: Kind::Format,
+};
+
+const VAULT: Word = Word {
+    shown: "VAULT",
+    kind: Kind::FolderPath,
+};
+
+const PATH: Word = Word {
+    shown: "PATH",
+    kind: Kind::PlainPath,
+};
+
+const PATH_OR_ROOT: Word = Word {
+    shown: "PATH",
+    kind: Kind::PlainPathOrRoot,
+};
+
+const LOST: Word = Word {
+    shown: "LOST",
+    kind: Kind::FolderPath,
+};
+
+const FROM: Word = Word {
+    shown: "FROM",
+    kind: Kind::FolderPath,
+};
+
+const TO: Word = Word {
+    shown: "TO",
+    kind: Kind::FolderPath,
+};
+
+const WORK: Word = Word {
+    shown: "WORK",
+    kind: Kind::FolderPath,
+};
+
+const FILE: Word = Word {
+    shown: "FILE",
+    kind: Kind::FolderPath,
+};
+
+const SEED: Word = Word {
+    shown: "SEED",
+    kind: Kind::Number(18446744073709551615),
+};
+
+const COUNT: Word = Word {
+    shown: "COUNT",
+    kind: Kind::Number(2000),
+};
+
+const PASS: Valued = Valued {
+    name: "--pass",
+    value: FILE,
+    line: "file with the passphrase",
+};
+
+const FROM_PASS: Valued = Valued {
+    name: "--from-pass",
+    value: FILE,
+    line: "file with the passphrase of the source",
+};
+
+const TO_PASS: Valued = Valued {
+    name: "--to-pass",
+    value: FILE,
+    line: "file with the passphrase of the target",
+};
+
+const STAGED_IN: Valued = Valued {
+    name: "--work",
+    value: WORK,
+    line: "work folder",
+};
+
+const NFC: Flag = Flag {
+    name: "--nfc",
+    line: "bring names to normalization form C",
+};
 
 static ROWS: [Row; 12] = [
     Row {
         verb: Verb::DecryptFile,
         name: "decrypt-file",
-        words: &[Kind::Key],
+        line: "decrypt a content file of gocryptfs from the input",
+        words: &[KEYHEX],
         options: &[],
         flags: &[],
+        claims: &[],
+        one_file_system: None,
+        streams: true,
+        statuses: &[5, 6, 12, 23],
+        contradicted: &[],
     },
     Row {
         verb: Verb::Init,
         name: "init",
-        words: &[Kind::Format, Kind::FolderPath],
-        options: &[
-            Valued {
-                name: "--pass",
-                kind: Kind::FolderPath,
-            },
-            Valued {
-                name: "--work",
-                kind: Kind::FolderPath,
-            },
-        ],
+        line: "make a vault",
+        words: &[KIND, VAULT],
+        options: &[PASS, STAGED_IN],
         flags: &[],
-    },
-    Row {
-        verb: Verb::Ls,
-        name: "ls",
-        words: &[Kind::FolderPath, Kind::PlainPathOrRoot],
-        options: &[Valued {
-            name: "--pass",
-            kind: Kind::FolderPath,
-        }],
-        flags: &[],
-    },
-    Row {
-        verb: Verb::Cat,
-        name: "cat",
-        words: &[Kind::FolderPath, Kind::PlainPath],
-        options: &[Valued {
-            name: "--pass",
-            kind: Kind::FolderPath,
-        }],
-        flags: &[],
-    },
-    Row {
-        verb: Verb::Fsck,
-        name: "fsck",
-        words: &[Kind::FolderPath],
-        options: &[Valued {
-            name: "--pass",
-            kind: Kind::FolderPath,
-        }],
-        flags: &[],
+        claims: &[Claim::Alone(Place::Value(1)), Claim::Alone(Place::Value(3))],
+        one_file_system: Some((Place::Value(1), Place::Value(3))),
+        streams: false,
+        statuses: &[4, 7, 10, 11, 15, 16, 17, 21, 23],
+        contradicted: &[],
     },
     Row {
         verb: Verb::Mkdir,
         name: "mkdir",
-        words: &[Kind::FolderPath, Kind::PlainPath],
-        options: &[
-            Valued {
-                name: "--pass",
-                kind: Kind::FolderPath,
-            },
-            Valued {
-                name: "--work",
-                kind: Kind::FolderPath,
-            },
-        ],
+        line: "make a directory in a vault",
+        words: &[VAULT, PATH],
+        options: &[PASS, STAGED_IN],
         flags: &[],
+        claims: &[Claim::Alone(Place::Value(0)), Claim::Alone(Place::Value(3))],
+        one_file_system: Some((Place::Value(0), Place::Value(3))),
+        streams: false,
+        statuses: &[4, 7, 8, 9, 10, 11, 12, 13, 15, 16, 17, 21, 22, 23],
+        contradicted: &[],
     },
     Row {
         verb: Verb::Put,
         name: "put",
-        words: &[Kind::FolderPath, Kind::PlainPath],
-        options: &[
-            Valued {
-                name: "--pass",
-                kind: Kind::FolderPath,
-            },
-            Valued {
-                name: "--work",
-                kind: Kind::FolderPath,
-            },
-        ],
+        line: "store the input as a file of a vault",
+        words: &[VAULT, PATH],
+        options: &[PASS, STAGED_IN],
         flags: &[],
+        claims: &[Claim::Alone(Place::Value(0)), Claim::Alone(Place::Value(3))],
+        one_file_system: Some((Place::Value(0), Place::Value(3))),
+        streams: false,
+        statuses: &[4, 5, 7, 8, 9, 10, 11, 12, 13, 15, 16, 17, 21, 22, 23],
+        contradicted: &[],
+    },
+    Row {
+        verb: Verb::Ls,
+        name: "ls",
+        line: "list a directory of a vault",
+        words: &[VAULT, PATH_OR_ROOT],
+        options: &[PASS],
+        flags: &[],
+        claims: &[],
+        one_file_system: None,
+        streams: false,
+        statuses: &[4, 6, 8, 9, 10, 11, 12, 23],
+        contradicted: &[],
+    },
+    Row {
+        verb: Verb::Cat,
+        name: "cat",
+        line: "write the content of a file of a vault",
+        words: &[VAULT, PATH],
+        options: &[PASS],
+        flags: &[],
+        claims: &[],
+        one_file_system: None,
+        streams: true,
+        statuses: &[4, 6, 8, 9, 10, 11, 12, 23],
+        contradicted: &[],
+    },
+    Row {
+        verb: Verb::Fsck,
+        name: "fsck",
+        line: "check the structure and the contents of a vault",
+        words: &[VAULT],
+        options: &[PASS],
+        flags: &[],
+        claims: &[],
+        one_file_system: None,
+        streams: false,
+        statuses: &[1, 4, 6, 8, 9, 10, 11, 23],
+        contradicted: &[],
     },
     Row {
         verb: Verb::Repair,
         name: "repair",
-        words: &[Kind::FolderPath, Kind::FolderPath],
-        options: &[Valued {
-            name: "--pass",
-            kind: Kind::FolderPath,
-        }],
+        line: "move strays out of a vault",
+        words: &[VAULT, LOST],
+        options: &[PASS],
         flags: &[],
+        claims: &[Claim::Alone(Place::Value(0)), Claim::Alone(Place::Value(1))],
+        one_file_system: Some((Place::Value(0), Place::Value(1))),
+        streams: false,
+        statuses: &[4, 6, 8, 9, 10, 11, 15, 16, 23],
+        contradicted: &[],
     },
     Row {
         verb: Verb::Migrate,
         name: "migrate",
-        words: &[Kind::FolderPath, Kind::FolderPath, Kind::FolderPath],
-        options: &[
-            Valued {
-                name: "--from-pass",
-                kind: Kind::FolderPath,
-            },
-            Valued {
-                name: "--to-pass",
-                kind: Kind::FolderPath,
-            },
+        line: "move the tree of one vault into another",
+        words: &[FROM, TO, WORK],
+        options: &[FROM_PASS, TO_PASS],
+        flags: &[NFC],
+        claims: &[
+            Claim::Shared(Place::Value(0)),
+            Claim::Alone(Place::Value(1)),
+            Claim::Alone(Place::Value(2)),
         ],
-        flags: &["--nfc"],
+        one_file_system: Some((Place::Value(1), Place::Value(2))),
+        streams: false,
+        statuses: &[
+            4, 6, 7, 8, 9, 10, 11, 12, 13, 14, 15, 16, 17, 21, 22, 23, 25,
+        ],
+        contradicted: &[20],
     },
     Row {
         verb: Verb::Resume,
         name: "resume",
-        words: &[Kind::FolderPath],
-        options: &[
-            Valued {
-                name: "--from-pass",
-                kind: Kind::FolderPath,
-            },
-            Valued {
-                name: "--to-pass",
-                kind: Kind::FolderPath,
-            },
-        ],
+        line: "go on with a migration that was stopped",
+        words: &[WORK],
+        options: &[FROM_PASS, TO_PASS],
         flags: &[],
+        claims: &[
+            Claim::Alone(Place::Value(0)),
+            Claim::Shared(Place::JournalSource),
+            Claim::Alone(Place::JournalTarget),
+        ],
+        one_file_system: Some((Place::JournalTarget, Place::Value(0))),
+        streams: false,
+        statuses: &[
+            4, 6, 7, 8, 9, 10, 11, 12, 13, 14, 15, 16, 18, 19, 20, 21, 22, 23, 24, 25,
+        ],
+        contradicted: &[17],
     },
     Row {
         verb: Verb::Retire,
         name: "retire",
-        words: &[Kind::FolderPath],
-        options: &[
-            Valued {
-                name: "--from-pass",
-                kind: Kind::FolderPath,
-            },
-            Valued {
-                name: "--to-pass",
-                kind: Kind::FolderPath,
-            },
-        ],
+        line: "remove the source of a finished migration",
+        words: &[WORK],
+        options: &[FROM_PASS, TO_PASS],
         flags: &[],
+        claims: &[
+            Claim::Alone(Place::Value(0)),
+            Claim::Alone(Place::JournalSource),
+            Claim::Alone(Place::JournalTarget),
+        ],
+        one_file_system: Some((Place::JournalSource, Place::Value(0))),
+        streams: false,
+        statuses: &[4, 6, 8, 9, 10, 11, 12, 13, 14, 15, 16, 18, 20, 23, 25],
+        contradicted: &[17],
     },
     Row {
         verb: Verb::Demo,
         name: "demo",
-        words: &[Kind::Number(18446744073709551615), Kind::Number(2000)],
+        line: "make a tree in memory and move it there and back",
+        words: &[SEED, COUNT],
         options: &[],
         flags: &[],
+        claims: &[],
+        one_file_system: None,
+        streams: false,
+        statuses: &[6, 21, 22],
+        contradicted: &[],
     },
 ];
+
+/// All of them, in the order in which they are shown.
+pub fn rows() -> &'static [Row] {
+    &ROWS
+}
 
 /// The row of the command of this name.
 pub(crate) fn row_named(name: &str) -> Option<Row>

@@ -39,7 +39,7 @@ pub(crate) enum Value {
 /// What a word writes, by its kind, or `None` where it doesn't write that.
 pub(crate) fn value_of(alloc: Global, kind: Kind, word: &str) -> Result<Option<Value>, AllocError>
     ensures is { IfOk result (λ value. value ≡ value_by kind word.now) }
-    ensures written { IfOk result (λ value. IfSome value IsWritten) }
+    ensures written { IfOk result (λ value. IfSome value (IsWritten kind)) }
 {
     match kind {
         Kind::FolderPath => Ok(folder_path(alloc, word)?.map(Value::Folder)),
@@ -104,7 +104,6 @@ fn key_of(text: &str) -> Option<[u8; 32]>
 pub(crate) fn next_folder(values: &mut IntoIter<Value>) -> Option<FPath>
     ensures is { result ≡ folder_value (first (into_iter_items values.old)) }
     ensures rest { into_iter_items values.new ≡ drop 1 (into_iter_items values.old) }
-    ensures written { IfSome (first (into_iter_items values.old)) IsWritten → IfSome result IsParsed }
 {
     match values.next() {
         Some(Value::Folder(path)) => Some(path),

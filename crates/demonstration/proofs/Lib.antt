@@ -1,10 +1,11 @@
 mod Beginnable
 mod DemoDraws
 mod DemonstratedTrees
-pub mod Demonstrations
+mod Demonstrations
 mod GoodOrder
 mod Legs
 mod Movable
+mod Rows
 mod SharedPlaces
 mod Statuses
 mod Steps

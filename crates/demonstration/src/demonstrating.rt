@@ -1,5 +1,5 @@
 //! `demo`: makes a tree from a number, and moves it to the other format and back, in a folder of its own.
-ghost use Rattle.std.specs.Prelude.{◌≡◌, ◌≤◌, ℕ, Bool, List, Option, Err, IfErr, IfOk, OnOk, IsTrue};
+ghost use Rattle.std.specs.Prelude.{◌≡◌, ◌≤◌, ℕ, Bool, List, Option, Err, IfErr, IfOk, OnOk, IsTrue, Some};
 ghost use Rattle.command_answers.specs.Answers.{status_of};
 ghost use Rattle.command_answers.specs.Messages.{TakesText, line_of};
 ghost use Rattle.command_opening.specs.World.{World};
@@ -12,12 +12,14 @@ ghost use Rattle.folder_spec.specs.Event.{Told};
 ghost use Rattle.moving_answers.specs.Stops.{is_of_stop};
 ghost use Rattle.port_model.specs.Counts.{CountRose};
 ghost use Rattle.port_model.specs.Draws.{ByteStream};
+ghost use Rattle.command_answers.specs.Rows.{Ends};
+ghost use Rattle.command_words.specs.declared.commands.Command.TheVariants.{Demo};
 
 use crate::faults::answer_to_make;
 use crate::leading::{Led, Leg, lead};
 use crate::telling::{tell_made, tell_retired};
 use command_answers::{Answer, report};
-use command_words::Demonstration;
+use command_words::commands::Demonstration;
 use demo_core::{SteadyFolder, make_first, place, random_of};
 use folder_model::Folder;
 use port_model::laws::draws_compose;
@@ -61,6 +63,7 @@ pub fn demo<O: Sink>(alloc: Global, demonstration: &Demonstration, out: &mut O) 
         (record { told = told; left = left; ended = ended; taken = O.taken out.old; random = random })
         (record { told = told; left = left; ended = ended; taken = O.taken out.new; random = random }) }
     ensures output_fault { result ≡ Answer.OutputFault → CountRose (O.faults out.old) (O.faults out.new) }
+    ensures row { Ends (Some (Demo demonstration.now)) result }
 {
     let Demonstration { seed, count } = *demonstration;
     let count = count as u32;

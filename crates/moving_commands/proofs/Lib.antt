@@ -1,5 +1,5 @@
-pub mod Migrations
-pub mod Retirings
+mod Migrations
+mod Retirings
 mod Histories
-pub mod Rows
-pub mod ToldRows
+mod Rows
+mod ToldRows

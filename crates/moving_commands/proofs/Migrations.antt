@@ -49,7 +49,7 @@ use Rattle.command_opening.specs.Opening.{IsPhrase, OfPassFile, passphrase_in}
 use Rattle.command_opening.specs.Places.{RefusesOverlap, overlap}
 use Rattle.command_answers.specs.Printing.{PrintsText}
 use Rattle.command_opening.specs.Refusing.{RefusesPass, Unless}
-use Rattle.moving_commands.specs.Resume.{HasResumed, IsResumedFor, Resumes, ResumesTree}
+use Rattle.moving_commands.specs.Resume.{HasResumed, IsResumedFor, Resumes}
 use Rattle.moving_commands.specs.Resume as resuming_on
 use Rattle.command_opening.specs.Shown.{is_of_end, is_of_opening, refused}
 use Rattle.command_opening.specs.World.{World}
@@ -325,18 +325,6 @@ module _ (moving : Moving) where
     prints = printed done_text (λ done. HasMigrated moving done told told') done answer taken taken' has prints is_printed;
   }
 
-  migrates_nothing_apart : AreSafe → (told : Option Told) (taken : Option (List ℕ)) (stream : Option ByteStream) → MigratesApart moving OutOfMemory told told taken taken stream stream
-  migrates_nothing_apart law told taken stream =
-      migrate_stopped OutOfMemory told told taken stream stream refl (λ first second is. cc is) (undrawn _ stream (λ is. cc is)) (λ v is. inl (unread_undrawn moving.passes OutOfMemory told told stream v refl (inr (inl refl)))) (λ g v is asked. keeps_same law g told told refl)
-      (moves_nothing moving.work moving.target told told refl) (λ g v is asked can. refl)
-
-  pub migrates_nothing : AreSafe → (w : World) → MigratesTree moving OutOfMemory w w
-  migrates_nothing law w = record { apart = by (first_overlap moving); untouched = Keeps-refl w.left }
-    where
-      by : (o : Option Pair) → MatchOption o (MigratesApart moving OutOfMemory w.told w.told w.taken w.taken w.random w.random) (λ two. RefusesOverlap two.first two.second OutOfMemory w w)
-      by None = migrates_nothing_apart law w.told w.taken w.random
-      by (Some two) = refuses_overlap two.first two.second OutOfMemory w w.told (inr refl) refl
-
 -- ---- `resume`
 
 module _ (resuming : Resuming) where
@@ -375,13 +363,6 @@ module _ (resuming : Resuming) where
     moves = moves;
     completes = λ g v is asked can. printed_is_own is_of_chance answer refl is_printed;
     prints = printed done_text (λ done. HasResumed resuming done told told') done answer taken taken' has prints is_printed;
-  }
-
-  pub resumes_nothing : AreSafe → (w : World) → ResumesTree resuming OutOfMemory w w
-  resumes_nothing law w = record {
-    resumes = resume_stopped OutOfMemory w.told w.told w.taken w.random w.random refl (undrawn _ w.random (λ is. cc is)) (λ v is. inl (unread_undrawn resuming.passes OutOfMemory w.told w.told w.random v refl (inr (inl refl)))) (λ g v is asked. keeps_same law g w.told w.told refl)
-        (λ v journal is good stands. moves_nothing resuming.work journal.target w.told w.told refl) (λ g v is asked can. refl);
-    untouched = Keeps-refl w.left;
   }
 
   -- the root that is named of a vault that isn't opened is the journal's

@@ -2,7 +2,6 @@
 use Rattle.std.proofs.Common.{◌≡◌, ℕ, List, Option, Some, Ok, Err, inl, inr, refl, sym, ap, ◌∙◌, subst, IsTrue, ◌⊎◌, IfErr}
 use Rattle.std.specs.Prelude.{◌≢◌, MatchResult}
 use Rattle.std.proofs.lemmas.Bool.{or_left}
-use Rattle.std.proofs.KnownBytes.{Keeps-refl}
 use Rattle.folder_spec.specs.Event.{Told}
 use Rattle.folder_spec.specs.Path.{Path}
 use Rattle.folder_spec.specs.Seen.{IfSeen, IsSeen}
@@ -29,13 +28,12 @@ use Rattle.moving_answers.specs.Faults.{of_retire}
 use Rattle.moving_answers.specs.Stops.{is_of_refusal}
 use Rattle.migration_sides.proofs.Unchanged.{tested_seen}
 use Rattle.migration_sides.specs.Unchanged.{ChangesNothing}
-use Rattle.moving_commands.specs.Retire.{AnswersRetire, ComesTo, Completes, IsCaused, IsRetired, MayCome, Outcome, Retires, RetiresSource, TouchesNoMore, retired_text, unopened}
+use Rattle.moving_commands.specs.Retire.{AnswersRetire, ComesTo, Completes, IsCaused, IsRetired, MayCome, Outcome, Retires, TouchesNoMore, retired_text, unopened}
 use Rattle.command_opening.specs.Shown.{is_of_end}
-use Rattle.command_opening.specs.World.{World}
 use Rattle.command_answers.specs.declared.answer.Answer.{Answer}
 use Rattle.command_answers.specs.declared.answer.Answer.TheVariants.{OutOfMemory}
 use Rattle.command_words.specs.declared.commands.Resuming.{Resuming}
-use Rattle.moving_commands.proofs.Migrations.{AreSafe, OfJournal, answers_printed, comes_as, journal_since, keeps_same, passes_unread, root_read}
+use Rattle.moving_commands.proofs.Migrations.{OfJournal, answers_printed, comes_as, journal_since, root_read}
 use Rattle.command_opening.proofs.Printings.{IsPrinted, nothing_printed, printed, printed_is_own}
 
 abbrev refused_by : {X : Type 0} → RetireFault → tests.Answer X
@@ -86,14 +84,6 @@ module _ (resuming : Resuming) where
     keeps = keeps;
     completes = λ g v is asked can. printed_completes answer is_printed;
     prints = printed retired_text (IsRetired resuming told told') done answer taken taken' has prints is_printed;
-  }
-
-  pub retires_nothing : AreSafe → (w : World) → RetiresSource resuming OutOfMemory w w
-  retires_nothing law w = record {
-    retires = retire_stopped OutOfMemory w.told w.told w.taken refl (λ v is. inl (passes_unread resuming.passes OutOfMemory w.told w.told v refl (inr (inl refl)))) (λ g v is asked. keeps_same law g w.told w.told refl)
-        (λ g v is asked can. inr (inl refl));
-    untouched = Keeps-refl w.left;
-    undrawn = refl;
   }
 
   -- the root that is named of a vault that isn't opened is the journal's

@@ -60,7 +60,7 @@ use Rattle.work_folder.specs.Looking.{Tests, TestsEntries}
 use Rattle.work_folder.specs.declared.fault.WorkFault.{WorkFault}
 use Rattle.work_folder.specs.declared.fault.WorkFault.TheVariants as works
 use Rattle.command_answers.specs.Answers.{status_of}
-use Rattle.command_answers.specs.Rows.{Ends, EndsTold, is_among, may_end_told, row_of}
+use Rattle.command_answers.specs.Rows.{Ends, EndsTold, contradicted_of, is_among, may_end_told}
 use Rattle.command_answers.specs.declared.answer.Answer.{Answer}
 use Rattle.command_answers.specs.declared.answer.Answer.TheVariants.{Done, OutOfMemory, FolderFault, OutputFault, Refused, WrongPass, NotFound, WrongKind, Limit}
 use Rattle.command_answers.specs.declared.answer.Limit.TheVariants as limit
@@ -470,12 +470,12 @@ by_printing command answer done output memory (inr (inr is)) = subst (EndsTold c
 -- a command is answered as it comes out, where no fault is told by what only a folder leads to that contradicts itself
 answered_told : {D F : Type 0} (command : Option Command) (IsRoot : F → Path → Type 0) (told : F → Path → Answer) (answer : Answer) (outcome : Result D F)
     → EndsTold command Done → EndsTold command OutputFault → EndsTold command OutOfMemory → Ends command answer
-    → ((fault : F) (root : Path) → outcome ≡ Err fault → ¬ IsTrue (is_among (row_of command).contradicted (status_of (told fault root)))) → AnswersBy IsRoot told answer outcome → EndsTold command answer
+    → ((fault : F) (root : Path) → outcome ≡ Err fault → ¬ IsTrue (is_among (contradicted_of command) (status_of (told fault root)))) → AnswersBy IsRoot told answer outcome → EndsTold command answer
 answered_told command IsRoot told answer (Ok done) finished output memory any never printed = by_printing command answer finished output memory printed
 answered_told command IsRoot told answer (Err fault) finished output memory any never (inl none) = subst (EndsTold command) (sym none) memory
 answered_told command IsRoot told answer (Err fault) finished output memory any never (inr (root, is_root, is)) =
-    told_by (may_end_told command (status_of answer)) (is_among (row_of command).contradicted (status_of answer)) any
-    (subst (λ a. ¬ IsTrue (is_among (row_of command).contradicted (status_of a))) (sym is) (never fault root refl))
+    told_by (may_end_told command (status_of answer)) (is_among (contradicted_of command) (status_of answer)) any
+    (subst (λ a. ¬ IsTrue (is_among (contradicted_of command) (status_of a))) (sym is) (never fault root refl))
 
 -- ---- the three commands
 

@@ -11,7 +11,8 @@ use migration_spec::laws::{
 /// In whatever order the three commands are run, stopped and run again: at every moment of every run, and after a crash there, each file
 /// that the source held when the migration began opens with its content in the source or at its mapped path in the target.
 ///
-/// A run is whatever `migrate`, `resume` and `retire` say of themselves: what `run` says of these commands.
+/// A run is whatever `migrate`, `resume` and `retire` say of themselves: what `run` says of these commands where they have begun. Where
+/// memory was refused before, nothing was done.
 pub fn histories_are_borne()
     ensures { (g : Migration) (first : Run g) (more : List (Run g)) (s : State) → IsHistory first more → IsStateIn first more s → LosesNothing g s }
 {

@@ -1,5 +1,5 @@
 //! `migrate`: moves the tree of one vault into another.
-ghost use Rattle.std.specs.Prelude.{◌≡◌, ◌≢◌, ℕ, Bool, List, Option, Ok, Err, IfErr, IfOk, IsTrue};
+ghost use Rattle.std.specs.Prelude.{◌≡◌, ◌≢◌, ℕ, Bool, List, Option, Ok, Err, IfErr, IfOk, IsTrue, Some};
 ghost use Rattle.folder_spec.specs.Apart.{AreSeparate};
 ghost use Rattle.folder_spec.specs.Path.{Path};
 ghost use Rattle.folder_spec.specs.Seen.{IfSeen};
@@ -10,14 +10,16 @@ ghost use Rattle.port_model.specs.Counts.{CountRose};
 ghost use Rattle.migration_spec.specs.Guard.{Migration};
 ghost use Rattle.command_opening.specs.World.{World};
 ghost use Rattle.command_words.specs.Written.{AreWritten};
-ghost use Rattle.moving_commands.specs.Migrate.{ComesTo, HasMigrated, IsAskedFor, MayCome, MigratesApart, MigratesTree, root_of};
+ghost use Rattle.moving_commands.specs.Migrate.{ComesTo, HasMigrated, IsAskedFor, MayCome, MigratesApart, MigratesTree, OwnFolders, root_of};
 ghost use Rattle.moving_answers.specs.Stops.{is_of_stop};
 ghost use Rattle.moving_commands.specs.Moving.{Completes, KeepsAll};
+ghost use Rattle.command_answers.specs.Rows.{Ends, EndsTold};
+ghost use Rattle.command_words.specs.declared.commands.Command.TheVariants.{Migrate};
 
 use crate::moving::{print_done, read_passes};
 use command_answers::Answer;
 use command_opening::{do_overlap, overlapping};
-use command_words::Moving;
+use command_words::commands::Moving;
 use folder_model::{FPath, Folder};
 use migrate_core::{Done, MoveFault};
 use migration_sides::Side;
@@ -42,6 +44,8 @@ pub fn migrate<F: Folder, R: Randoms, O: Sink>(
     ensures folder_fault { result ≡ Answer.FolderFault → CountRose (F.faults folder.old) (F.faults folder.new) }
     ensures random_fault { result ≡ Answer.RandomFault → CountRose (R.faults random.old) (R.faults random.new) }
     ensures output_fault { result ≡ Answer.OutputFault → CountRose (O.faults out.old) (O.faults out.new) }
+    ensures row { Ends (Some (Migrate moving.now)) result }
+    ensures told_row { IfSeen (F.told folder.old) (λ v. OwnFolders moving.now v → EndsTold (Some (Migrate moving.now)) result) }
 {
     if do_overlap(&moving.source, &moving.target) {
         return overlapping(&moving.source, &moving.target);

@@ -10,7 +10,7 @@ ghost use Rattle.moving_commands.specs.Resume.{IsFoundJournal, root_by};
 
 use command_answers::{Answer, print};
 use command_opening::read_pass;
-use command_words::{Passes, Resuming};
+use command_words::commands::{Passes, Resuming};
 use folder_model::{FPath, Folder};
 use migrate_core::Done;
 use migration_sides::Side;

@@ -1,5 +1,5 @@
 //! `resume`: goes on with a migration.
-ghost use Rattle.std.specs.Prelude.{◌≡◌, ◌⊎◌, ℕ, Bool, List, Option, Ok, Err, IfErr, IfOk, IsTrue};
+ghost use Rattle.std.specs.Prelude.{◌≡◌, ◌⊎◌, ℕ, Bool, List, Option, Ok, Err, IfErr, IfOk, IsTrue, Some};
 ghost use Rattle.folder_spec.specs.Seen.{IfSeen, IsSeen};
 ghost use Rattle.folder_spec.specs.View.{View};
 ghost use Rattle.migrate_core.specs.Completing.{CanResume};
@@ -15,10 +15,12 @@ ghost use Rattle.moving_answers.specs.Faults.{of_move};
 ghost use Rattle.moving_answers.specs.Stops.{is_of_told_stop};
 ghost use Rattle.moving_commands.specs.Moving.{Completes, KeepsAll};
 ghost use Rattle.moving_commands.specs.Resume.{ComesTo, HasResumed, IsResumedFor, MayCome, ResumesTree, root_by, unopened};
+ghost use Rattle.command_answers.specs.Rows.{Ends, EndsTold};
+ghost use Rattle.command_words.specs.declared.commands.Command.TheVariants.{Resume};
 
 use crate::moving::{learn, print_done, root_by};
 use command_answers::Answer;
-use command_words::Resuming;
+use command_words::commands::Resuming;
 use content_writing::PutFault;
 use folder_model::{FPath, Folder};
 use migrate_core::{Done, MoveFault};
@@ -44,6 +46,8 @@ pub fn resume<F: Folder, R: Randoms, O: Sink>(
     ensures folder_fault { result ≡ Answer.FolderFault → CountRose (F.faults folder.old) (F.faults folder.new) }
     ensures random_fault { result ≡ Answer.RandomFault → CountRose (R.faults random.old) (R.faults random.new) }
     ensures output_fault { result ≡ Answer.OutputFault → CountRose (O.faults out.old) (O.faults out.new) }
+    ensures row { Ends (Some (Resume resuming.now)) result }
+    ensures told_row { IfSeen (F.told folder.old) (λ v. EndsTold (Some (Resume resuming.now)) result) }
 {
     match go_on(alloc, resuming, folder, random) {
         Ok(done) => print_done(alloc, &done, out),

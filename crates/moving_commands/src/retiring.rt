@@ -1,5 +1,5 @@
 //! `retire`: removes the source of a finished migration.
-ghost use Rattle.std.specs.Prelude.{◌≡◌, ◌⊎◌, ℕ, Bool, List, Option, Ok, Err, IfErr, IfOk, IsTrue, string_bytes};
+ghost use Rattle.std.specs.Prelude.{◌≡◌, ◌⊎◌, ℕ, Bool, List, Option, Ok, Err, IfErr, IfOk, IsTrue, string_bytes, Some};
 ghost use Rattle.folder_spec.specs.Seen.{IfSeen};
 ghost use Rattle.port_model.specs.Counts.{CountRose};
 ghost use Rattle.port_model.specs.Draws.{ByteStream};
@@ -14,10 +14,12 @@ ghost use Rattle.moving_commands.specs.Moving.{KeepsAll};
 ghost use Rattle.moving_commands.specs.Resume.{IsResumedFor};
 ghost use Rattle.moving_commands.specs.Resume.{root_by};
 ghost use Rattle.moving_commands.specs.Retire.{ComesTo, Completes, IsRetired, MayCome, RetiresSource, retired_text, unopened};
+ghost use Rattle.command_answers.specs.Rows.{Ends, EndsTold};
+ghost use Rattle.command_words.specs.declared.commands.Command.TheVariants.{Retire};
 
 use crate::moving::{learn, root_by};
 use command_answers::{Answer, print};
-use command_words::Resuming;
+use command_words::commands::Resuming;
 use folder_model::{FPath, Folder};
 use migration_sides::Side;
 use migration_spec::laws::guarded_migrations_are_safe;
@@ -40,6 +42,8 @@ pub fn retire<F: Folder, O: Sink>(
         (record { told = F.told folder.new; left = left; ended = ended; taken = O.taken out.new; random = random }) }
     ensures folder_fault { result ≡ Answer.FolderFault → CountRose (F.faults folder.old) (F.faults folder.new) }
     ensures output_fault { result ≡ Answer.OutputFault → CountRose (O.faults out.old) (O.faults out.new) }
+    ensures row { Ends (Some (Retire resuming.now)) result }
+    ensures told_row { IfSeen (F.told folder.old) (λ v. EndsTold (Some (Retire resuming.now)) result) }
 {
     match remove(alloc, resuming, folder) {
         Ok(retired) => print_retired(alloc, &retired, out),

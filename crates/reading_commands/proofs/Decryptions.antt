@@ -1,9 +1,8 @@
 -- What `decrypt-file` did, from what its parts say.
-use Rattle.std.proofs.Common.{◌≡◌, ℕ, ◌+◌, List, [], Some, inl, inr, refl, sym, ap, ◌∙◌, subst, arith}
+use Rattle.std.proofs.Common.{◌≡◌, ℕ, ◌+◌, List, Some, inl, inr, refl, sym, ap, ◌∙◌, subst}
 use Rattle.std.specs.Prelude.{◌⊎◌, IfSome, IsTrue, Option}
 use Rattle.std.specs.List.{concat}
 use Rattle.std.specs.Io.KnownBytes.{IsAtEnd}
-use Rattle.std.proofs.KnownBytes.{Consumes-nil, Keeps-refl}
 use Rattle.chunk_files.specs.FileOf.{FilesAreWhatTheyGive, WholeFilesEnd}
 use Rattle.chunk_files.specs.Reading.{Reading}
 use Rattle.chunk_files.specs.declared.fault.ChunkFault.{ChunkFault}
@@ -64,20 +63,3 @@ decrypts gives ends key end before after tells writes takes near ended same undr
 
     writes_of : (input : List ℕ) → before.left ≡ Some input → Writes end (input_reading key input) before.taken after.taken
     writes_of input is = told_input (λ input. Writes end (input_reading key input) before.taken after.taken) before.left input writes is
-
--- what was begun by nothing, for want of memory
-pub decrypts_nothing : (key : List ℕ) (w : World) → DecryptsFile key answers.OutOfMemory w w
-decrypts_nothing key w = record {
-  end = OutOfMemory;
-  is = refl;
-  tells = λ input is. tt;
-  writes = λ input is. Keeps-refl w.taken;
-  decided = λ input is. inr (inr (inr refl));
-  decrypted = λ done input is. cc;
-  whole_files = λ input content is within file. inr (inr (inr refl));
-  ended = λ done. cc;
-  takes = ([], omega arith, Consumes-nil w.left);
-  near = λ which input is. absurd (elim which [ inl output ↦ cc | inr damaged ↦ let clash : OutOfMemory ≡ Damaged damaged.0 = damaged.1 in cc ]);
-  unchanged = refl;
-  undrawn = refl;
-}

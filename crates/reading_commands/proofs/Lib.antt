@@ -1,5 +1,6 @@
 mod Contents
-pub mod Decryptions
+mod Decryptions
 mod Listings
 mod Outcomes
+mod Rows
 mod WholeFiles

@@ -1,14 +1,16 @@
 //! `cat`: writes the content of a file of a vault.
-ghost use Rattle.std.specs.Prelude.{◌≡◌, ℕ, Bool, List, Option};
+ghost use Rattle.std.specs.Prelude.{◌≡◌, ℕ, Bool, List, Option, Some};
 ghost use Rattle.port_model.specs.Counts.{CountRose};
 ghost use Rattle.port_model.specs.Draws.{ByteStream};
 ghost use Rattle.reading_commands.specs.Cat.{WritesFile};
 ghost use Rattle.command_opening.specs.World.{World};
+ghost use Rattle.command_answers.specs.Rows.{Ends};
+ghost use Rattle.command_words.specs.declared.commands.Command.TheVariants.{Cat};
 
 use crate::faults::answer_to_cat;
 use command_answers::Answer;
 use command_opening::open;
-use command_words::Target;
+use command_words::commands::Target;
 use folder_model::Folder;
 use port_model::Sink;
 use std::alloc::Global;
@@ -28,6 +30,7 @@ pub fn cat<F: Folder, O: Sink>(
         (record { told = F.told folder.new; left = left; ended = ended; taken = O.taken out.new; random = random }) }
     ensures folder_fault { result ≡ Answer.FolderFault → CountRose (F.faults folder.old) (F.faults folder.new) }
     ensures output_fault { result ≡ Answer.OutputFault → CountRose (O.faults out.old) (O.faults out.new) }
+    ensures row { Ends (Some (Cat target.now)) result }
 {
     roots_have_one_answer();
     what_is_found_stands();

@@ -9,6 +9,8 @@ ghost use Rattle.reading_commands.specs.DecryptFile.{DecryptsFile};
 ghost use Rattle.reading_commands.specs.Inputs.{TakesAtMost, input_limit};
 ghost use Rattle.reading_commands.specs.Decrypts.{TakesNear, TellsOf, Writes, input_reading};
 ghost use Rattle.reading_commands.specs.Streaming.{Drains, HasWritten, Outcome};
+ghost use Rattle.command_answers.specs.Rows.{Ends};
+ghost use Rattle.command_words.specs.declared.commands.Command.TheVariants.{DecryptFile};
 
 use chunk_files::laws::{files_are_what_they_give, given_chunks_come_first, whole_files_end};
 use chunk_files::{ChunkBuf, ChunkFault, ContentKeys, Decoder, Step};
@@ -50,6 +52,7 @@ pub fn decrypt_file<I: Source, O: Sink>(
         (record { told = told; left = I.left input.new; ended = I.ended input.new; taken = O.taken out.new; random = random }) }
     ensures input_fault { result ≡ Answer.InputFault → CountRose (I.faults input.old) (I.faults input.new) }
     ensures output_fault { result ≡ Answer.OutputFault → CountRose (O.faults out.old) (O.faults out.new) }
+    ensures row { Ends (Some (DecryptFile key.now)) result }
 {
     files_are_what_they_give();
     whole_files_end();

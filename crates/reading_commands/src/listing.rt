@@ -1,5 +1,5 @@
 //! `ls`: lists a directory of a vault.
-ghost use Rattle.std.specs.Prelude.{◌≡◌, ◌++◌, ◌∷◌, [], ℕ, Bool, List, Option, Err, IfErr, IfOk, IsTrue, OnOk, string_bytes};
+ghost use Rattle.std.specs.Prelude.{◌≡◌, ◌++◌, ◌∷◌, [], ℕ, Bool, List, Option, Err, IfErr, IfOk, IsTrue, OnOk, string_bytes, Some};
 ghost use Rattle.folder_spec.specs.Seen.{IfSeen};
 ghost use Rattle.port_model.specs.Counts.{CountRose};
 ghost use Rattle.port_model.specs.Draws.{ByteStream};
@@ -7,10 +7,12 @@ ghost use Rattle.reading_commands.specs.Ls.{ListsItems, ShowsItems, item_line, l
 ghost use Rattle.command_opening.specs.Refusing.{Unless};
 ghost use Rattle.command_opening.specs.Shown.{is_refusal, refused};
 ghost use Rattle.command_opening.specs.World.{World};
+ghost use Rattle.command_answers.specs.Rows.{Ends};
+ghost use Rattle.command_words.specs.declared.commands.Command.TheVariants.{Ls};
 
 use command_answers::Answer;
 use command_opening::{answer_to_find, open};
-use command_words::Target;
+use command_words::commands::Target;
 use folder_model::Folder;
 use plain_tree::NodeKind;
 use port_model::Sink;
@@ -27,6 +29,7 @@ pub fn ls<F: Folder, O: Sink>(alloc: Global, target: &Target, folder: &mut F, ou
         (record { told = F.told folder.new; left = left; ended = ended; taken = O.taken out.new; random = random }) }
     ensures folder_fault { result ≡ Answer.FolderFault → CountRose (F.faults folder.old) (F.faults folder.new) }
     ensures output_fault { result ≡ Answer.OutputFault → CountRose (O.faults out.old) (O.faults out.new) }
+    ensures row { Ends (Some (Ls target.now)) result }
 {
     roots_have_one_answer();
     directories_have_one_list();

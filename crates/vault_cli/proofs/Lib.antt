@@ -1,2 +1,1 @@
 mod Executions
-mod Rows

@@ -1,23 +1,21 @@
 //! Running a command.
 ghost use Rattle.std.specs.Prelude.{◌≡◌, ◌⊎◌, IsNone, IsTrue, Some, map, string_bytes};
 ghost use Rattle.port_model.specs.Counts.{CountRose};
-ghost use Rattle.command_answers.specs.Answers.{status_of};
+ghost use Rattle.command_answers.specs.Answers.{Blames, status_of};
 ghost use Rattle.command_answers.specs.Messages.{IsReported, TakesText, line_of};
-ghost use Rattle.command_answers.specs.Rows.{may_end, may_end_told};
+ghost use Rattle.command_answers.specs.Rows.{Ends, EndsTold, may_end, may_end_told};
 ghost use Rattle.folder_spec.specs.Seen.{IfSeen};
 ghost use Rattle.command_words.specs.Commands.{command_of};
 ghost use Rattle.command_words.specs.Written.{HasTexts, IsSmall};
-ghost use Rattle.vault_cli.specs.Runs.{Executes, OwnsFolders};
+ghost use Rattle.vault_cli.specs.Runs.{Executes, OwnsFolders, Runs};
 ghost use Rattle.command_opening.specs.World.{World};
 
 use checking_commands::{fsck, repair};
 use command_answers::laws::{reports_are_answers, words_alone_end_with_2};
 use command_answers::{Answer, report};
-use command_words::Command;
-use command_words::laws::demonstrations_are_small;
+use command_words::commands::Command;
 use demonstration::demo;
 use folder_model::Folder;
-use migration_spec::laws::guarded_migrations_are_safe;
 use moving_commands::{migrate, resume, retire};
 use port_model::{Randoms, Sink, Source};
 use reading_commands::{cat, decrypt_file, ls};
@@ -43,7 +41,7 @@ pub fn run<F: Folder, R: Randoms, I: Source, O: Sink, E: Sink>(
     // message finds no memory: then that is.
     ensures answer { (answer reported : Answer) × IsReported answer reported × (result ≡ status_of reported)
         × TakesText (E.taken err.old) (E.taken err.new) (E.faults err.old) (E.faults err.new) (line_of reported)
-        × Executes (command_of (map string_bytes words.now)) answer
+        × Runs (command_of (map string_bytes words.now)) answer
         (record { told = F.told folder.old; left = I.left input.old; ended = I.ended input.old; taken = O.taken out.old; random = R.left random.old })
         (record { told = F.told folder.new; left = I.left input.new; ended = I.ended input.new; taken = O.taken out.new; random = R.left random.new }) }
 
@@ -77,16 +75,14 @@ fn execute<F: Folder, R: Randoms, I: Source, O: Sink>(
     input: &mut I,
     out: &mut O,
 ) -> Answer
-    ensures executes { Executes (command_of (map string_bytes words.now)) result
+    ensures runs { Runs (command_of (map string_bytes words.now)) result
         (record { told = F.told folder.old; left = I.left input.old; ended = I.ended input.old; taken = O.taken out.old; random = R.left random.old })
         (record { told = F.told folder.new; left = I.left input.new; ended = I.ended input.new; taken = O.taken out.new; random = R.left random.new }) }
-    ensures folder_fault { result ≡ Answer.FolderFault → CountRose (F.faults folder.old) (F.faults folder.new) }
-    ensures input_fault { result ≡ Answer.InputFault → CountRose (I.faults input.old) (I.faults input.new) }
-    ensures output_fault { result ≡ Answer.OutputFault → CountRose (O.faults out.old) (O.faults out.new) }
-    ensures random_fault { result ≡ Answer.RandomFault → CountRose (R.faults random.old) (R.faults random.new) }
+    ensures row { Ends (command_of (map string_bytes words.now)) result }
+    ensures told_row { IfSeen (F.told folder.old) (λ v. OwnsFolders (command_of (map string_bytes words.now)) v → EndsTold (command_of (map string_bytes words.now)) result) }
+    ensures blame { Blames result (CountRose (F.faults folder.old) (F.faults folder.new)) (CountRose (I.faults input.old) (I.faults input.new))
+        (CountRose (O.faults out.old) (O.faults out.new)) (CountRose (R.faults random.old) (R.faults random.new)) }
 {
-    guarded_migrations_are_safe();
-    demonstrations_are_small();
     match Command::from_words(alloc, words) {
         Err(_) => Answer::OutOfMemory,
         Ok(None) => Answer::BadCommandLine,
@@ -108,10 +104,10 @@ fn execute_command<F: Folder, R: Randoms, I: Source, O: Sink>(
     ensures executes { Executes (Some command.now) result
         (record { told = F.told folder.old; left = I.left input.old; ended = I.ended input.old; taken = O.taken out.old; random = R.left random.old })
         (record { told = F.told folder.new; left = I.left input.new; ended = I.ended input.new; taken = O.taken out.new; random = R.left random.new }) }
-    ensures folder_fault { result ≡ Answer.FolderFault → CountRose (F.faults folder.old) (F.faults folder.new) }
-    ensures input_fault { result ≡ Answer.InputFault → CountRose (I.faults input.old) (I.faults input.new) }
-    ensures output_fault { result ≡ Answer.OutputFault → CountRose (O.faults out.old) (O.faults out.new) }
-    ensures random_fault { result ≡ Answer.RandomFault → CountRose (R.faults random.old) (R.faults random.new) }
+    ensures row { Ends (Some command.now) result }
+    ensures told_row { IfSeen (F.told folder.old) (λ v. OwnsFolders (Some command.now) v → EndsTold (Some command.now) result) }
+    ensures blame { Blames result (CountRose (F.faults folder.old) (F.faults folder.new)) (CountRose (I.faults input.old) (I.faults input.new))
+        (CountRose (O.faults out.old) (O.faults out.new)) (CountRose (R.faults random.old) (R.faults random.new)) }
 {
     match command {
         Command::DecryptFile(key) => decrypt_file(alloc, key, input, out),

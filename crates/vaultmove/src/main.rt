@@ -3,10 +3,13 @@
 
 mod claiming;
 mod streams;
+mod synopsis;
 
 use crate::claiming::claim;
-use crate::streams::{WipedSink, prints_as_it_goes, tell};
+use crate::streams::{WipedSink, tell};
+use crate::synopsis::tell_commands;
 use command_answers::{Answer, report};
+use command_words::Request;
 use host_ports::{HostFolder, HostRandoms};
 use port_model::{StdSink, StdSource};
 use std::io::IsTerminal;
@@ -14,7 +17,9 @@ use std::process::ExitCode;
 use std::{env, io};
 use vault_cli::run;
 
-// The status of a run whose folder failed.
+// The status of words that make no command, and of a run whose folder failed.
+const BAD_COMMAND_LINE: u8 = 2;
+
 const FOLDER_FAULT: u8 = 4;
 
 fn main(rt: HostRuntime) -> ExitCode {
@@ -22,7 +27,9 @@ fn main(rt: HostRuntime) -> ExitCode {
         Ok(status) => ExitCode::from(status),
         Err(answer) => {
             let mut err = StdSink::new(rt.stderr());
-            ExitCode::from(report(rt.alloc(), answer, &mut err).status())
+            let status = report(rt.alloc(), answer, &mut err).status();
+            explain_words(&rt, status, None);
+            ExitCode::from(status)
         }
     }
 }
@@ -31,23 +38,58 @@ fn main(rt: HostRuntime) -> ExitCode {
 fn status(rt: &HostRuntime) -> Result<u8, Answer> {
     let words = words(rt)?;
     let mut folder = HostFolder::new(rt.clone()?, rt.alloc(), "")?;
-    status_of(rt, words.as_slice(), &mut folder)
+    let streams = claim_words(rt, words.as_slice(), &mut folder)?;
+    let status = status_of(rt, words.as_slice(), streams, &mut folder)?;
+    explain_words(rt, status, words.first());
+    Ok(status)
 }
 
-fn status_of(rt: &HostRuntime, words: &[String], folder: &mut HostFolder) -> Result<u8, Answer> {
-    claim(rt.alloc(), words, folder)?;
+// Claims what the command of these words may change, and tells whether it prints before all is done.
+fn claim_words(
+    rt: &HostRuntime,
+    words: &[String],
+    folder: &mut HostFolder,
+) -> Result<bool, Answer> {
+    let Some(request) = Request::read(rt.alloc(), words)? else {
+        return Ok(false);
+    };
+    claim(rt.alloc(), &request, folder)?;
+    Ok(request.row().streams)
+}
+
+fn status_of(
+    rt: &HostRuntime,
+    words: &[String],
+    streams: bool,
+    folder: &mut HostFolder,
+) -> Result<u8, Answer> {
     let terminal = rt.stderr().is_terminal();
     let shared = terminal && rt.stdout().is_terminal();
-    let shows = terminal && !(shared && prints_as_it_goes(words)) && clears_lines(rt);
+    let shows = terminal && !(shared && streams) && clears_lines(rt);
     if shows {
         folder.show_life();
     }
     let status = run_in(rt, words, folder, shows, shared)?;
     folder.wipe();
-    if terminal && status == FOLDER_FAULT {
+    if status == FOLDER_FAULT && (terminal || wants_cause(rt)) {
         tell(rt, folder);
     }
     Ok(status)
+}
+
+// Says on a terminal which words make a command, where these make none.
+fn explain_words(rt: &HostRuntime, status: u8, name: Option<&String>) {
+    if status == BAD_COMMAND_LINE && rt.stderr().is_terminal() {
+        tell_commands(rt, name.map(|name| name.as_str()));
+    }
+}
+
+// Whether the cause of a fault of the folder is asked for where no terminal is: by VAULTMOVE_CAUSE, with exactly this value.
+fn wants_cause(rt: &HostRuntime) -> bool {
+    match env::var(rt, "VAULTMOVE_CAUSE") {
+        Ok(value) => value.as_str() == "1",
+        Err(_) => false,
+    }
 }
 
 // Whether a line on the terminal can be cleared again: not where TERM is `dumb`.

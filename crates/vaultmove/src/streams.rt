@@ -45,15 +45,7 @@ fn wipe_late(rt: &HostRuntime, start: Instant) {
     }
 }
 
-/// Whether the command of these words prints before it ends.
-pub fn prints_as_it_goes(words: &[String]) -> bool {
-    match words.first() {
-        Some(name) => name.as_str() == "cat" || name.as_str() == "decrypt-file",
-        None => false,
-    }
-}
-
-/// Says on the terminal where and why the machine failed a call, as far as there is memory for it.
+/// Says on standard error where and why the machine failed a call, as far as there is memory for it.
 pub fn tell(rt: &HostRuntime, folder: &HostFolder) {
     if let Some(trouble) = folder.trouble() {
         if let Ok(line) = line_of(rt.alloc(), trouble) {

@@ -1,5 +1,6 @@
 mod Costs
-pub mod MadeItems
-pub mod MadeVaults
+mod MadeItems
+mod MadeVaults
 mod Makings
-pub mod StoredFiles
+mod Rows
+mod StoredFiles

@@ -2,7 +2,6 @@
 use Rattle.std.proofs.Common.{◌≡◌, ◌⊎◌, zero, suc, ℕ, Bool, true, false, List, [], ◌∷◌, Option, Some, Result, Ok, Err, OnOk, IfErr, inl, inr, refl, sym, ap, subst, arith, IsTrue}
 use Rattle.std.specs.Prelude.{Contains}
 use Rattle.std.specs.Io.KnownBytes.{Keeps}
-use Rattle.std.proofs.KnownBytes.{Keeps-refl}
 use Rattle.content_writing.specs.Content.{Ending, Whole}
 use Rattle.content_writing.specs.declared.fault.PutFault.{PutFault}
 use Rattle.content_writing.specs.declared.fault.PutFault.TheVariants as puts
@@ -27,7 +26,7 @@ use Rattle.content_writing.specs.Placing.{ShowsOne, ShowsNewTree, IsMaking, Ends
 use Rattle.content_writing.specs.Trees.{KeepsTree, GainsItem, opens_as}
 use Rattle.work_folder.specs.Entering.{EntersAs}
 use Rattle.command_beginning.proofs.Beginnings.{Alike, Begins, Outside, apart_of_both, apart_of_unstaged, as_before_in, as_before_then, begun_then, same_under, seen_after, seen_alike, went_alone}
-use Rattle.command_beginning.proofs.Endings.{ended_before, made_beside, makes_nothing}
+use Rattle.command_beginning.proofs.Endings.{ended_before, made_beside}
 use Rattle.command_opening.proofs.Refusals.{pass_gives, unless_then}
 use Rattle.command_beginning.proofs.Sites.{site_then}
 use Rattle.command_beginning.specs.Beginning.{ChangesOnlyWork, IsBeginning, ChangesWork, OfSite, OfWork}
@@ -185,10 +184,6 @@ module _ (is_own : Answer → Bool) (change : Change) (Makes : Vault → Type 0)
       (λ apart v seen. unless_then (OfSite change v answer (λ vault. ⊥)) (OfSite change v answer Makes) answer (site_then change v answer (λ vault. ⊥) Makes (λ vault none. absurd none)) (refuses apart v seen))
       own begins
 
-  -- where it isn't begun
-  pub nothing_changed : (w : World) → ChangesVault is_own change Makes OutOfMemory w w
-  nothing_changed w = makes_nothing is_of_beginning change.target.vault change.work (λ v. OfSite change v OutOfMemory Makes) (ChangesThere is_own change Makes OutOfMemory w) refl w
-
 -- ---- a directory
 
 own_fault : (result : Result (Unit {0}) PutFault) → IfErr result (λ fault. IsDirectoryFault fault) → IsTrue (is_of_directory (answer_to_making result))
@@ -224,6 +219,3 @@ module _ (change : Change) where
         changes = vault_changed is_of_directory change (MakesIt answer before after) answer before after vault.vault apart opens entered (subst (λ a. IsTrue (is_of_directory a)) (sym is) (own_fault result fault)) made unwritten;
         untouched = untouched;
       }
-
-  pub makes_no_directory : (w : World) → MakesDirectoryIn change OutOfMemory w w
-  makes_no_directory w = record { changes = nothing_changed is_of_directory change (MakesIt OutOfMemory w w) w; untouched = Keeps-refl w.left }

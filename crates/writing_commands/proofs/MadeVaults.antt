@@ -27,7 +27,7 @@ use Rattle.vault_write.specs.Founding.{Founds, FoundsCm, IsFounding, IsNewVault,
 use Rattle.content_writing.specs.Making.{StagesOrPlaces, is_apart, is_unstaged}
 use Rattle.work_folder.specs.Entering.{EntersAs}
 use Rattle.command_beginning.proofs.Beginnings.{Begins, apart_of_both, apart_of_unstaged, as_before_in, as_before_then, begun_then, seen_after, unstaged}
-use Rattle.command_beginning.proofs.Endings.{ended_before, ends_before, made_beside, makes_nothing}
+use Rattle.command_beginning.proofs.Endings.{ended_before, ends_before, made_beside}
 use Rattle.command_opening.proofs.Overlaps.{apart_by, none_drawn}
 use Rattle.command_opening.proofs.Refusals.{pass_gives, pass_then}
 use Rattle.command_beginning.proofs.Sites.{begins_nowhere, work_then}
@@ -235,6 +235,3 @@ module _ (new : NewVault) where
         (λ apart v seen. pass_caused new v answer (refuses apart v seen)) own (begins_nowhere new.work w.told told same);
     untouched = Keeps-refl w.left;
   }
-
-  pub makes_no_vault : (w : World) → MakesVault new OutOfMemory w w
-  makes_no_vault w = record { makes = makes_nothing is_of_readying new.vault new.work (Tests OutOfMemory) (IsFounded OutOfMemory w w) refl w; untouched = Keeps-refl w.left }

@@ -19,7 +19,7 @@ use Rattle.vault_spec.specs.Vault.{Vault}
 use Rattle.vault_write.specs.Calls.{InPlace, MakesAt, MakesFile, TakesContent, Writing}
 use Rattle.work_folder.specs.Entering.{EntersAs}
 use Rattle.command_beginning.proofs.Beginnings.{Alike, Outside}
-use Rattle.writing_commands.proofs.MadeItems.{item_made, nothing_changed, vault_changed}
+use Rattle.writing_commands.proofs.MadeItems.{item_made, vault_changed}
 use Rattle.writing_commands.proofs.Makings.{all_done}
 use Rattle.command_beginning.specs.Beginning.{ChangesWork}
 use Rattle.writing_commands.specs.Faults.{answer_to_making}
@@ -29,7 +29,7 @@ use Rattle.command_opening.specs.Places.{overlap}
 use Rattle.writing_commands.specs.Put.{StoresFile, StoresIn, TakesInput, is_of_file}
 use Rattle.command_opening.specs.World.{World}
 use Rattle.command_answers.specs.declared.answer.Answer.{Answer}
-use Rattle.command_answers.specs.declared.answer.Answer.TheVariants.{Done, OutOfMemory}
+use Rattle.command_answers.specs.declared.answer.Answer.TheVariants.{Done}
 use Rattle.command_words.specs.declared.commands.Change.{Change}
 
 -- ---- the input
@@ -126,6 +126,3 @@ module _ (change : Change) where
         makes = made;
         takes = input_taken _ writing answer room room' passed passed' before.left after.left before.random after.random result fresh unpassed is makes.takes;
       }) unwritten
-
-  pub stores_nothing : (w : World) → StoresFile change OutOfMemory w w
-  stores_nothing w = nothing_changed is_of_file change (StoresIt OutOfMemory w w) w

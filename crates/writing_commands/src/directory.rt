@@ -1,13 +1,15 @@
 //! `mkdir`: makes a directory in a vault.
-ghost use Rattle.std.specs.Prelude.{◌≡◌, ℕ, Bool, List, Option};
+ghost use Rattle.std.specs.Prelude.{◌≡◌, ℕ, Bool, List, Option, Some};
 ghost use Rattle.port_model.specs.Counts.{CountRose};
 ghost use Rattle.writing_commands.specs.Mkdir.{MakesDirectoryIn};
 ghost use Rattle.command_opening.specs.World.{World};
+ghost use Rattle.command_answers.specs.Rows.{Ends};
+ghost use Rattle.command_words.specs.declared.commands.Command.TheVariants.{Mkdir};
 
 use crate::faults::answer_to_making;
 use command_answers::Answer;
 use command_beginning::begin;
-use command_words::Change;
+use command_words::commands::Change;
 use folder_model::Folder;
 use folder_spec::laws::roots_show_their_own;
 use port_model::Randoms;
@@ -28,6 +30,7 @@ pub fn mkdir<F: Folder, R: Randoms>(
         (record { told = F.told folder.new; left = left; ended = ended; taken = taken; random = R.left random.new }) }
     ensures folder_fault { result ≡ Answer.FolderFault → CountRose (F.faults folder.old) (F.faults folder.new) }
     ensures random_fault { result ≡ Answer.RandomFault → CountRose (R.faults random.old) (R.faults random.new) }
+    ensures row { Ends (Some (Mkdir change.now)) result }
 {
     draws_compose();
     roots_show_their_own();

@@ -1,5 +1,5 @@
 //! `init`: makes a vault.
-ghost use Rattle.std.specs.Prelude.{◌≡◌, ◌⊎◌, ◌≤◌, ℕ, Bool, false, List, Option, Err};
+ghost use Rattle.std.specs.Prelude.{◌≡◌, ◌⊎◌, ◌≤◌, ℕ, Bool, false, List, Option, Err, Some};
 ghost use Rattle.folder_spec.specs.Seen.{IfSeen};
 ghost use Rattle.port_model.specs.Counts.{CountRose};
 ghost use Rattle.vault_write.specs.Founding.{MayFound};
@@ -9,12 +9,15 @@ ghost use Rattle.writing_commands.specs.Init.{cost_of, FoundsAs, FoundsNew, Make
 ghost use Rattle.command_opening.specs.Opening.{IsPhrase};
 ghost use Rattle.command_opening.specs.Refusing.{Unless};
 ghost use Rattle.command_opening.specs.World.{World};
+ghost use Rattle.command_answers.specs.Rows.{Ends};
+ghost use Rattle.command_words.specs.declared.commands.Command.TheVariants.{Init};
 
 use crate::faults::answer_to_making;
 use command_answers::Answer;
 use command_beginning::{enter_settled, read_apart};
 use command_opening::test_free;
-use command_words::{Format, NewVault};
+use command_words::Format;
+use command_words::commands::NewVault;
 use cryptomator_conf::Combo;
 use folder_model::Folder;
 use kdf_suite::ScryptCost;
@@ -37,6 +40,7 @@ pub fn init<F: Folder, R: Randoms>(
         (record { told = F.told folder.new; left = left; ended = ended; taken = taken; random = R.left random.new }) }
     ensures folder_fault { result ≡ Answer.FolderFault → CountRose (F.faults folder.old) (F.faults folder.new) }
     ensures random_fault { result ≡ Answer.RandomFault → CountRose (R.faults random.old) (R.faults random.new) }
+    ensures row { Ends (Some (Init new.now)) result }
 {
     draws_compose();
     match read_apart(alloc, folder, &new.vault, &new.work, &new.pass) {

@@ -1,13 +1,15 @@
 //! `put`: stores the input as a file of a vault.
-ghost use Rattle.std.specs.Prelude.{◌≡◌, ℕ, List, Option};
+ghost use Rattle.std.specs.Prelude.{◌≡◌, ℕ, List, Option, Some};
 ghost use Rattle.port_model.specs.Counts.{CountRose};
 ghost use Rattle.command_opening.specs.World.{World};
 ghost use Rattle.writing_commands.specs.Put.{StoresFile};
+ghost use Rattle.command_answers.specs.Rows.{Ends};
+ghost use Rattle.command_words.specs.declared.commands.Command.TheVariants.{Put};
 
 use crate::faults::answer_to_making;
 use command_answers::Answer;
 use command_beginning::begin;
-use command_words::Change;
+use command_words::commands::Change;
 use folder_model::Folder;
 use folder_spec::laws::roots_show_their_own;
 use port_model::laws::draws_compose;
@@ -30,6 +32,7 @@ pub fn put<F: Folder, R: Randoms, I: Source>(
     ensures folder_fault { result ≡ Answer.FolderFault → CountRose (F.faults folder.old) (F.faults folder.new) }
     ensures input_fault { result ≡ Answer.InputFault → CountRose (I.faults input.old) (I.faults input.new) }
     ensures random_fault { result ≡ Answer.RandomFault → CountRose (R.faults random.old) (R.faults random.new) }
+    ensures row { Ends (Some (Put change.now)) result }
 {
     draws_compose();
     roots_show_their_own();

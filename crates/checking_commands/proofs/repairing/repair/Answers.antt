@@ -1,9 +1,10 @@
-use Rattle.std.proofs.Common.{refl, subst, sym, ◌∙◌}
+use Rattle.std.proofs.Common.{refl, subst, sym, ◌∙◌, None, false}
 use Rattle.std.proofs.KnownBytes.{Keeps-refl}
 use Rattle.command_answers.specs.Printing.{PrintsText}
 use Rattle.checking_commands.specs.Repair.{moved_text}
 use Rattle.command_opening.specs.World.{World}
 use Rattle.checking_commands.proofs.Repairs.{moved_or_cut, not_repaired, repair_printed, repair_refused, repaired_apart}
+use Rattle.checking_commands.proofs.Rows.{repair_row}
 use Rattle.checking_commands.proofs.repairing.repair.Goals as goal
 
 pub returns-then-do_overlap-clause-repairs : goal.returns-then-do_overlap-clause-repairs
@@ -30,3 +31,12 @@ returns-in-Ok-clause-repairs g c left ended random =
     repaired_apart target c.print_moved.result before after (sym c.do_overlap.ensures ∙ c.if-do_overlap.false) (Keeps-refl left) refl
     (repair_printed target c.in-Ok.moved.items c.print_moved.result before.told after.told before.taken after.taken c.in-Ok.ensures.moved c.in-Ok.ensures.passed c.in-Ok.ensures.moves
     (subst (λ moved. PrintsText (moved_text moved) c.print_moved.result before.taken after.taken) c.as_slice.ensures.value c.print_moved.ensures.prints) c.print_moved.ensures.answers)
+
+pub returns-then-do_overlap-clause-row : goal.returns-then-do_overlap-clause-row
+returns-then-do_overlap-clause-row g c = repair_row _ _ _ _ (returns-then-do_overlap-clause-repairs g c None false None)
+
+pub returns-in-Err-clause-row : goal.returns-in-Err-clause-row
+returns-in-Err-clause-row g c = repair_row _ _ _ _ (returns-in-Err-clause-repairs g c None false None)
+
+pub returns-in-Ok-clause-row : goal.returns-in-Ok-clause-row
+returns-in-Ok-clause-row g c = repair_row _ _ _ _ (returns-in-Ok-clause-repairs g c None false None)

@@ -1,6 +1,7 @@
-use Rattle.std.proofs.Common.{refl}
+use Rattle.std.proofs.Common.{refl, None, false}
 use Rattle.std.proofs.KnownBytes.{Keeps-refl}
 use Rattle.demonstration.proofs.Demonstrations.{demonstrates_nothing, none_rose, so_more, steadily, steady_part}
+use Rattle.demonstration.proofs.Rows.{demo_row}
 use Rattle.demonstration.proofs.demonstrating.demo.Goals as goal
 
 pub returns-in-Err-clause-demonstrates : goal.returns-in-Err-clause-demonstrates
@@ -20,3 +21,9 @@ returns-in-Ok-clause-demonstrates g c told left ended random =
       untouched = Keeps-refl left;
       undrawn = refl;
     }
+
+pub returns-in-Err-clause-row : goal.returns-in-Err-clause-row
+returns-in-Err-clause-row g c = demo_row _ _ _ _ (returns-in-Err-clause-demonstrates g c None None false None)
+
+pub returns-in-Ok-clause-row : goal.returns-in-Ok-clause-row
+returns-in-Ok-clause-row g c = demo_row _ _ _ _ (returns-in-Ok-clause-demonstrates g c None None false None)

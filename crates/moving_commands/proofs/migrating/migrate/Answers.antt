@@ -1,8 +1,10 @@
-use Rattle.std.proofs.Common.{sym, ◌∙◌}
+use Rattle.std.proofs.Common.{sym, ◌∙◌, None, false}
 use Rattle.std.proofs.KnownBytes.{Keeps-refl}
 use Rattle.command_opening.specs.World.{World}
 use Rattle.moving_commands.specs.Migrate.{pair}
 use Rattle.moving_commands.proofs.Migrations.{first_two, migrated_apart, no_two, second_two, third_two, two_refused}
+use Rattle.moving_commands.proofs.Rows.{migrate_row}
+use Rattle.moving_commands.proofs.ToldRows.{migrate_told}
 use Rattle.moving_commands.proofs.migrating.migrate.Goals as goal
 
 pub returns-then-do_overlap-clause-migrates : goal.returns-then-do_overlap-clause-migrates
@@ -33,3 +35,27 @@ returns-clause-migrates g c left ended =
     migrated_apart moving c.migrate_apart.result before after
     (no_two moving (sym c.do_overlap.ensures ∙ c.if-do_overlap.false) (sym c.do_overlap-2.ensures ∙ c.if-do_overlap-2.false) (sym c.do_overlap-3.ensures ∙ c.if-do_overlap-3.false)) (Keeps-refl left)
     c.migrate_apart.ensures.apart
+
+pub returns-then-do_overlap-clause-row : goal.returns-then-do_overlap-clause-row
+returns-then-do_overlap-clause-row g c = migrate_row _ _ _ _ (returns-then-do_overlap-clause-migrates g c None false)
+
+pub returns-then-do_overlap-clause-told_row : goal.returns-then-do_overlap-clause-told_row
+returns-then-do_overlap-clause-told_row g c v seen folders = migrate_told _ _ _ _ v seen folders (returns-then-do_overlap-clause-migrates g c None false)
+
+pub returns-then-do_overlap-2-clause-row : goal.returns-then-do_overlap-2-clause-row
+returns-then-do_overlap-2-clause-row g c = migrate_row _ _ _ _ (returns-then-do_overlap-2-clause-migrates g c None false)
+
+pub returns-then-do_overlap-2-clause-told_row : goal.returns-then-do_overlap-2-clause-told_row
+returns-then-do_overlap-2-clause-told_row g c v seen folders = migrate_told _ _ _ _ v seen folders (returns-then-do_overlap-2-clause-migrates g c None false)
+
+pub returns-then-do_overlap-3-clause-row : goal.returns-then-do_overlap-3-clause-row
+returns-then-do_overlap-3-clause-row g c = migrate_row _ _ _ _ (returns-then-do_overlap-3-clause-migrates g c None false)
+
+pub returns-then-do_overlap-3-clause-told_row : goal.returns-then-do_overlap-3-clause-told_row
+returns-then-do_overlap-3-clause-told_row g c v seen folders = migrate_told _ _ _ _ v seen folders (returns-then-do_overlap-3-clause-migrates g c None false)
+
+pub returns-clause-row : goal.returns-clause-row
+returns-clause-row g c = migrate_row _ _ _ _ (returns-clause-migrates g c None false)
+
+pub returns-clause-told_row : goal.returns-clause-told_row
+returns-clause-told_row g c v seen folders = migrate_told _ _ _ _ v seen folders (returns-clause-migrates g c None false)

@@ -1,5 +1,8 @@
+use Rattle.std.proofs.Common.{None, false}
 use Rattle.std.proofs.KnownBytes.{Keeps-refl}
 use Rattle.moving_commands.proofs.Migrations.{resume_printed, resume_stopped, stopped_drew}
+use Rattle.moving_commands.proofs.Rows.{resume_row}
+use Rattle.moving_commands.proofs.ToldRows.{resume_told}
 use Rattle.moving_commands.proofs.resuming.resume.Goals as goal
 
 pub returns-in-Ok-clause-resumes : goal.returns-in-Ok-clause-resumes
@@ -16,3 +19,15 @@ returns-in-Err-clause-resumes g c left ended = record {
       c.in-Err.ensures.stopped c.in-Err.ensures.keeps c.in-Err.ensures.moves c.in-Err.ensures.completes;
   untouched = Keeps-refl left;
 }
+
+pub returns-in-Ok-clause-row : goal.returns-in-Ok-clause-row
+returns-in-Ok-clause-row g c = resume_row _ _ _ _ (returns-in-Ok-clause-resumes g c None false)
+
+pub returns-in-Ok-clause-told_row : goal.returns-in-Ok-clause-told_row
+returns-in-Ok-clause-told_row g c v seen = resume_told _ _ _ _ v seen (returns-in-Ok-clause-resumes g c None false)
+
+pub returns-in-Err-clause-row : goal.returns-in-Err-clause-row
+returns-in-Err-clause-row g c = resume_row _ _ _ _ (returns-in-Err-clause-resumes g c None false)
+
+pub returns-in-Err-clause-told_row : goal.returns-in-Err-clause-told_row
+returns-in-Err-clause-told_row g c v seen = resume_told _ _ _ _ v seen (returns-in-Err-clause-resumes g c None false)

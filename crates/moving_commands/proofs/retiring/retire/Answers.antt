@@ -1,6 +1,8 @@
-use Rattle.std.proofs.Common.{refl}
+use Rattle.std.proofs.Common.{refl, None, false}
 use Rattle.std.proofs.KnownBytes.{Keeps-refl}
 use Rattle.moving_commands.proofs.Retirings.{retire_printed, retire_stopped}
+use Rattle.moving_commands.proofs.Rows.{retire_row}
+use Rattle.moving_commands.proofs.ToldRows.{retire_told}
 use Rattle.moving_commands.proofs.retiring.retire.Goals as goal
 
 pub returns-in-Ok-clause-retires : goal.returns-in-Ok-clause-retires
@@ -17,3 +19,15 @@ returns-in-Err-clause-retires g c left ended random = record {
   untouched = Keeps-refl left;
   undrawn = refl;
 }
+
+pub returns-in-Ok-clause-row : goal.returns-in-Ok-clause-row
+returns-in-Ok-clause-row g c = retire_row _ _ _ _ (returns-in-Ok-clause-retires g c None false None)
+
+pub returns-in-Ok-clause-told_row : goal.returns-in-Ok-clause-told_row
+returns-in-Ok-clause-told_row g c v seen = retire_told _ _ _ _ v seen (returns-in-Ok-clause-retires g c None false None)
+
+pub returns-in-Err-clause-row : goal.returns-in-Err-clause-row
+returns-in-Err-clause-row g c = retire_row _ _ _ _ (returns-in-Err-clause-retires g c None false None)
+
+pub returns-in-Err-clause-told_row : goal.returns-in-Err-clause-told_row
+returns-in-Err-clause-told_row g c v seen = retire_told _ _ _ _ v seen (returns-in-Err-clause-retires g c None false None)

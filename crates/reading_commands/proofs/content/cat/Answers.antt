@@ -1,4 +1,4 @@
-use Rattle.std.proofs.Common.{◌≡◌, ◌++◌, Ok, Err, sym, ap, ◌∙◌, refl, subst, inl, inr}
+use Rattle.std.proofs.Common.{◌≡◌, ◌++◌, Ok, Err, sym, ap, ◌∙◌, refl, subst, inl, inr, None, false}
 use Rattle.std.proofs.KnownBytes.{Keeps-refl}
 use Rattle.std.proofs.lemmas.Bool.{or_left}
 use Rattle.std.specs.Prelude.{MatchResult, IsTrue}
@@ -14,6 +14,7 @@ use Rattle.command_opening.proofs.Counts.{rose_after}
 use Rattle.command_opening.proofs.Printings.{is_another}
 use Rattle.command_opening.proofs.Refusals.{unless_opened}
 use Rattle.command_opening.proofs.Showing.{reads_refused}
+use Rattle.reading_commands.proofs.Rows.{cat_row}
 use Rattle.reading_commands.proofs.content.cat.Goals as goal
 
 pub returns-in-Err-clause-writes : goal.returns-in-Err-clause-writes
@@ -72,3 +73,12 @@ returns-clause-folder_fault g c = λ is. elim (cat_fails c.in-Err-cat.fault (sym
       c.in-Ok.ensures.grows (c.in-Err-cat.ensures.failed (ap Err failed))
   | inr found ↦ absurd (subst IsCatFault found c.in-Err-cat.ensures.fault)
 ]
+
+pub returns-in-Err-clause-row : goal.returns-in-Err-clause-row
+returns-in-Err-clause-row g c = cat_row _ _ _ _ (returns-in-Err-clause-writes g c None false None)
+
+pub returns-in-Ok-cat-clause-row : goal.returns-in-Ok-cat-clause-row
+returns-in-Ok-cat-clause-row g c = cat_row _ _ _ _ (returns-in-Ok-cat-clause-writes g c None false None)
+
+pub returns-clause-row : goal.returns-clause-row
+returns-clause-row g c = cat_row _ _ _ _ (returns-clause-writes g c None false None)

@@ -1,7 +1,8 @@
-use Rattle.std.proofs.Common.{refl, sym, subst}
+use Rattle.std.proofs.Common.{refl, sym, subst, None}
 use Rattle.command_opening.specs.World.{World}
 use Rattle.reading_commands.specs.DecryptFile.{DecryptsFile}
 use Rattle.reading_commands.proofs.Decryptions.{decrypts}
+use Rattle.reading_commands.proofs.Rows.{decrypt_row}
 use Rattle.reading_commands.proofs.decrypting.decrypt_file.Goals as goal
 
 pub returns-clause-decrypts : goal.returns-clause-decrypts
@@ -12,3 +13,6 @@ returns-clause-decrypts g c told random =
     subst (λ answer. DecryptsFile key answer before after) (sym c.from.ensures)
     (decrypts c.files_are_what_they_give.ensures c.whole_files_end.ensures key c.decrypt.result before after c.decrypt.ensures.tells c.decrypt.ensures.writes
     c.decrypt.ensures.takes c.decrypt.ensures.near c.decrypt.ensures.end refl refl)
+
+pub returns-clause-row : goal.returns-clause-row
+returns-clause-row g c = decrypt_row _ _ _ _ (returns-clause-decrypts g c None None)

@@ -1,4 +1,4 @@
-use Rattle.std.proofs.Common.{[], ◌∷◌, ◌∙◌, inl, inr, refl, string_bytes, subst, sym}
+use Rattle.std.proofs.Common.{[], ◌∷◌, ◌∙◌, inl, inr, refl, string_bytes, subst, sym, None, false}
 use Rattle.std.specs.Io.KnownBytes.{Appends}
 use Rattle.std.proofs.KnownBytes.{Keeps-refl}
 use Rattle.std.proofs.lemmas.List.{append-nil}
@@ -9,6 +9,7 @@ use Rattle.command_answers.specs.declared.answer.Answer.TheVariants.{Done, Outpu
 use Rattle.command_opening.specs.Shown.{is_refusal}
 use Rattle.command_opening.proofs.Printings.{is_another}
 use Rattle.command_opening.proofs.Showing.{reads_by, reads_refused}
+use Rattle.reading_commands.proofs.Rows.{ls_row}
 use Rattle.reading_commands.proofs.listing.ls.Goals as goal
 
 pub returns-in-Err-clause-lists : goal.returns-in-Err-clause-lists
@@ -60,3 +61,12 @@ returns-clause-lists g c left ended random =
       untouched = Keeps-refl left;
       undrawn = refl;
     }
+
+pub returns-in-Err-clause-row : goal.returns-in-Err-clause-row
+returns-in-Err-clause-row g c = ls_row _ _ _ _ (returns-in-Err-clause-lists g c None false None)
+
+pub returns-in-Ok-put-clause-row : goal.returns-in-Ok-put-clause-row
+returns-in-Ok-put-clause-row g c = ls_row _ _ _ _ (returns-in-Ok-put-clause-lists g c None false None)
+
+pub returns-clause-row : goal.returns-clause-row
+returns-clause-row g c = ls_row _ _ _ _ (returns-clause-lists g c None false None)

@@ -1,4 +1,4 @@
-use Rattle.std.proofs.Common.{sym, ◌∙◌}
+use Rattle.std.proofs.Common.{sym, ◌∙◌, None, false}
 use Rattle.std.proofs.KnownBytes.{Keeps-refl}
 use Rattle.vault_write.specs.Faults.{IsDirectoryFault}
 use Rattle.command_opening.specs.World.{World}
@@ -6,6 +6,7 @@ use Rattle.command_opening.proofs.Counts.{rose_after}
 use Rattle.writing_commands.specs.Mkdir.{is_of_directory}
 use Rattle.writing_commands.proofs.MadeItems.{MakesIt, directory_made, vault_unchanged}
 use Rattle.writing_commands.proofs.Makings.{folder_failed}
+use Rattle.writing_commands.proofs.Rows.{mkdir_row}
 use Rattle.writing_commands.proofs.directory.mkdir.Goals as goal
 
 pub returns-in-Ok-clause-makes : goal.returns-in-Ok-clause-makes
@@ -30,3 +31,9 @@ returns-in-Err-clause-makes g c left ended taken =
           c.in-Err.ensures.overlapping c.in-Err.ensures.refused c.in-Err.ensures.own c.in-Err.ensures.moments;
       untouched = Keeps-refl left;
     }
+
+pub returns-in-Ok-clause-row : goal.returns-in-Ok-clause-row
+returns-in-Ok-clause-row g c = mkdir_row _ _ _ _ (returns-in-Ok-clause-makes g c None false None)
+
+pub returns-in-Err-clause-row : goal.returns-in-Err-clause-row
+returns-in-Err-clause-row g c = mkdir_row _ _ _ _ (returns-in-Err-clause-makes g c None false None)

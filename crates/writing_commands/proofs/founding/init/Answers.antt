@@ -1,7 +1,8 @@
-use Rattle.std.proofs.Common.{subst}
+use Rattle.std.proofs.Common.{subst, None, false}
 use Rattle.command_opening.specs.World.{World}
 use Rattle.writing_commands.specs.Init.{MakesVault}
 use Rattle.writing_commands.proofs.MadeVaults.{not_read}
+use Rattle.writing_commands.proofs.Rows.{init_row}
 use Rattle.writing_commands.proofs.founding.init.Goals as goal
 
 pub returns-in-Ok-clause-makes : goal.returns-in-Ok-clause-makes
@@ -15,3 +16,9 @@ returns-in-Err-clause-makes g c left ended taken =
     not_read c.args.new.now c.in-Err.answer
     (record { told = g.F.Folder.told c.args.folder.now; left = left; ended = ended; taken = taken; random = g.R.Randoms.left c.args.random.now }) (g.F.Folder.told c.read_apart.new.folder)
     c.read_apart.ensures.told c.in-Err.ensures.overlapping c.in-Err.ensures.refused c.in-Err.ensures.own
+
+pub returns-in-Ok-clause-row : goal.returns-in-Ok-clause-row
+returns-in-Ok-clause-row g c = init_row _ _ _ _ (returns-in-Ok-clause-makes g c None false None)
+
+pub returns-in-Err-clause-row : goal.returns-in-Err-clause-row
+returns-in-Err-clause-row g c = init_row _ _ _ _ (returns-in-Err-clause-makes g c None false None)

@@ -1,4 +1,4 @@
-use Rattle.std.proofs.Common.{◌≡◌, subst, sym, ◌∙◌}
+use Rattle.std.proofs.Common.{◌≡◌, subst, sym, ◌∙◌, None}
 use Rattle.std.proofs.KnownBytes.{Keeps-refl}
 use Rattle.port_model.specs.Counts.{CountRose}
 use Rattle.command_opening.proofs.Counts.{rose_after}
@@ -8,6 +8,7 @@ use Rattle.writing_commands.specs.Put.{StoresFile, is_of_file}
 use Rattle.writing_commands.proofs.MadeItems.{vault_unchanged}
 use Rattle.writing_commands.proofs.Makings.{folder_failed, input_failed, random_failed}
 use Rattle.writing_commands.proofs.StoredFiles.{StoresIt, file_made}
+use Rattle.writing_commands.proofs.Rows.{put_row}
 use Rattle.writing_commands.proofs.storing.put.Goals as goal
 
 pub returns-in-Ok-clause-stores : goal.returns-in-Ok-clause-stores
@@ -55,3 +56,9 @@ returns-in-Err-clause-stores g c taken =
     let told = g.F.Folder.told c.begin.new.folder in
     vault_unchanged is_of_file c.args.change.now (StoresIt c.args.change.now c.in-Err.answer before (record before { told = told })) c.in-Err.answer before told
     c.in-Err.ensures.overlapping c.in-Err.ensures.refused c.in-Err.ensures.own c.in-Err.ensures.moments
+
+pub returns-in-Ok-clause-row : goal.returns-in-Ok-clause-row
+returns-in-Ok-clause-row g c = put_row _ _ _ _ (returns-in-Ok-clause-stores g c None)
+
+pub returns-in-Err-clause-row : goal.returns-in-Err-clause-row
+returns-in-Err-clause-row g c = put_row _ _ _ _ (returns-in-Err-clause-stores g c None)

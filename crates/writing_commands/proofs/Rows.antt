@@ -1,61 +1,34 @@
--- Each command answers what its row has.
-use Rattle.std.proofs.Common.{◌≡◌, ◌≢◌, ◌⊎◌, ◌||◌, Bool, true, false, IsTrue, List, ℕ, Option, Some, None, Result, Ok, Err, inl, inr, refl, sym, subst}
+-- What `init`, `mkdir` and `put` did tells an answer of their rows.
+use Rattle.std.proofs.Common.{◌≡◌, ◌⊎◌, Bool, true, false, IsTrue, List, ℕ, Option, Some, Result, Ok, Err, inl, inr, refl, sym, subst}
 use Rattle.content_writing.specs.declared.fault.PutFault.{PutFault}
 use Rattle.content_writing.specs.declared.fault.PutFault.TheVariants as puts
 use Rattle.cryptomator_conf.specs.declared.conf.Combo.{Combo}
 use Rattle.cryptomator_conf.specs.declared.conf.Combo.TheVariants.{SivGcm, SivCtrMac}
 use Rattle.folder_spec.specs.Path.{Part, Path}
-use Rattle.folder_spec.specs.Seen.{IfSeen}
 use Rattle.folder_spec.specs.View.{View}
 use Rattle.port_model.specs.Draws.{ByteStream}
 use Rattle.vault_spec.specs.Vault.{Either}
 use Rattle.command_answers.specs.Answers.{status_of}
-use Rattle.command_answers.specs.Rows.{Ends, EndsTold, may_end, may_end_told}
+use Rattle.command_answers.specs.Rows.{Ends, may_end}
 use Rattle.command_answers.specs.declared.answer.Answer.{Answer}
-use Rattle.command_answers.specs.declared.answer.Answer.TheVariants.{Done, OutOfMemory, FolderFault, Overlap}
+use Rattle.command_answers.specs.declared.answer.Answer.TheVariants.{Done, OutOfMemory, Overlap}
 use Rattle.command_words.specs.declared.commands.Change.{Change}
-use Rattle.command_words.specs.declared.commands.Checking.{Checking}
 use Rattle.command_words.specs.declared.commands.Command.{Command}
-use Rattle.command_words.specs.declared.commands.Command.TheVariants.{DecryptFile, Init, Ls, Cat, Fsck, Mkdir, Put, Repair, Migrate, Resume, Retire, Demo}
-use Rattle.command_words.specs.declared.commands.Demonstration.{Demonstration}
+use Rattle.command_words.specs.declared.commands.Command.TheVariants.{Init, Mkdir, Put}
 use Rattle.command_words.specs.declared.commands.NewVault.{NewVault}
-use Rattle.command_words.specs.declared.commands.Repairing.{Repairing}
-use Rattle.command_words.specs.declared.commands.Target.{Target}
 use Rattle.command_words.specs.declared.values.Format.{Format}
 use Rattle.command_words.specs.declared.values.Format.TheVariants.{Gocryptfs, Cryptomator, CryptomatorCtrMac}
 use Rattle.command_beginning.specs.Faults.{of_put}
 use Rattle.command_beginning.specs.Beginning.{MakesApart, MakesBeside}
 use Rattle.command_opening.specs.Tests.{is_of_beginning, is_of_readying}
-use Rattle.reading_commands.specs.DecryptFile.{answer_to_end}
-use Rattle.demonstration.specs.Demo.{is_of_chance, is_of_demonstration}
 use Rattle.writing_commands.specs.Faults.{answer_to_making}
-use Rattle.checking_commands.specs.Fsck.{is_of_checking}
 use Rattle.writing_commands.specs.Init.{DrawsCryptomator, DrawsVault, MakesVault}
-use Rattle.moving_commands.proofs.Rows.{migrate_row, resume_row, retire_row}
-use Rattle.moving_commands.proofs.ToldRows.{migrate_told, resume_told, retire_told}
 use Rattle.writing_commands.specs.Mkdir.{MakesDirectoryIn, is_of_directory}
 use Rattle.command_opening.specs.Places.{overlap, RefusesOverlap}
 use Rattle.writing_commands.specs.Put.{StoresFile, is_of_file}
-use Rattle.checking_commands.specs.Repair.{RepairsApart, RepairsVault, is_of_repairing}
-use Rattle.vault_cli.specs.Runs.{Executes, OwnsFolders}
-use Rattle.command_opening.specs.Shown.{is_of_reading}
 use Rattle.command_opening.specs.World.{World}
-use Rattle.reading_commands.specs.declared.decrypting.DecryptEnd.{DecryptEnd}
-use Rattle.reading_commands.specs.declared.decrypting.DecryptEnd.TheVariants as ends
 
 -- ---- by the answer: the first clause takes one, and the last each of the others
-
-reading_row : (target : Target) (answer : Answer) → IsTrue (is_of_reading answer) → IsTrue (may_end (Some (Ls target)) (status_of answer))
-reading_row target Done own = cc
-reading_row target answer own = cc
-
-checking_row : (checking : Checking) (answer : Answer) → IsTrue (is_of_checking answer) → IsTrue (may_end (Some (Fsck checking)) (status_of answer))
-checking_row checking Done own = cc
-checking_row checking answer own = cc
-
-repairing_row : (repairing : Repairing) (answer : Answer) → IsTrue (is_of_repairing answer) → IsTrue (may_end (Some (Repair repairing)) (status_of answer))
-repairing_row repairing Done own = cc
-repairing_row repairing answer own = cc
 
 readying_row : (new : NewVault) (answer : Answer) → IsTrue (is_of_readying answer) → IsTrue (may_end (Some (Init new)) (status_of answer))
 readying_row new Done own = cc
@@ -76,18 +49,6 @@ file_begun change answer own = cc
 file_row : (change : Change) (answer : Answer) → IsTrue (is_of_file answer) → IsTrue (may_end (Some (Put change)) (status_of answer))
 file_row change Done own = cc
 file_row change answer own = cc
-
-demonstration_row : (demonstration : Demonstration) (answer : Answer) → IsTrue (is_of_chance answer) → IsTrue (is_of_demonstration answer) → answer ≢ FolderFault → IsTrue (may_end (Some (Demo demonstration)) (status_of answer))
-demonstration_row demonstration FolderFault chance own steady = absurd (steady refl)
-demonstration_row demonstration answer chance own steady = cc
-
-decryption_row : (key : List ℕ) (end : DecryptEnd) → IsTrue (may_end (Some (DecryptFile key)) (status_of (answer_to_end end)))
-decryption_row key ends.Done = refl
-decryption_row key ends.OutOfMemory = refl
-decryption_row key ends.InputFault = refl
-decryption_row key ends.OutputFault = refl
-decryption_row key (ends.Damaged fault) = refl
-decryption_row key ends.TooLong = refl
 
 -- a vault of Cryptomator that isn't founded
 cryptomator_row : (new : NewVault) (combo : Combo) (phrase : List ℕ) (made : View) (files : List (Part × List ℕ)) (stream stream' : Option ByteStream) (fault : PutFault)
@@ -117,13 +78,6 @@ two_row : (command : Option Command) (answer : Answer) (one other : Path) → En
 two_row command answer one other overlaps memory (inl two) = subst (Ends command) (sym two) overlaps
 two_row command answer one other overlaps memory (inr none) = subst (Ends command) (sym none) memory
 
-repair_row : (target : Repairing) (answer : Answer) (before after : World) → RepairsVault target answer before after → Ends (Some (Repair target)) answer
-repair_row target answer before after did = by (overlap target.vault target.lost) did.apart
-  where
-    by : (b : Bool) → Either b (RefusesOverlap target.vault target.lost answer before after) (RepairsApart target answer before.told after.told before.taken after.taken) → Ends (Some (Repair target)) answer
-    by true refuses = two_row (Some (Repair target)) answer target.vault target.lost refl refl refuses.answers
-    by false repairs = repairing_row target answer repairs.own
-
 -- what makes something beside a work folder
 beside_row : (command : Option Command) (is_own : Answer → Bool) (vault work : Path) (Tests : View → Type 0) (Makes : Type 0) (answer : Answer) (before after : World) → MakesBeside is_own vault work Tests Makes answer before after
     → Ends command (Overlap vault work) → Ends command OutOfMemory → (IsTrue (is_own answer) → Ends command answer) → (Makes → Ends command answer) → Ends command answer
@@ -133,44 +87,15 @@ beside_row command is_own vault work Tests Makes answer before after did overlap
     by true refuses = two_row command answer vault work overlaps memory refuses.answers
     by false makes = elim makes.comes [ inl ends ↦ ended ends.own | inr comes ↦ made comes ]
 
-init_row : (new : NewVault) (answer : Answer) (before after : World) → MakesVault new answer before after → Ends (Some (Init new)) answer
+pub init_row : (new : NewVault) (answer : Answer) (before after : World) → MakesVault new answer before after → Ends (Some (Init new)) answer
 init_row new answer before after did =
     beside_row (Some (Init new)) is_of_readying new.vault new.work _ _ answer before after did.makes refl refl (readying_row new answer)
     (λ founds. subst (Ends (Some (Init new))) (sym founds.is) (founding_row new new.format founds.phrase founds.made founds.files before.random after.random founds.result founds.draws))
 
-mkdir_row : (change : Change) (answer : Answer) (before after : World) → MakesDirectoryIn change answer before after → Ends (Some (Mkdir change)) answer
+pub mkdir_row : (change : Change) (answer : Answer) (before after : World) → MakesDirectoryIn change answer before after → Ends (Some (Mkdir change)) answer
 mkdir_row change answer before after did =
     beside_row (Some (Mkdir change)) is_of_beginning change.target.vault change.work _ _ answer before after did.changes refl refl (directory_begun change answer) (λ there. directory_row change answer there.own)
 
-put_row : (change : Change) (answer : Answer) (before after : World) → StoresFile change answer before after → Ends (Some (Put change)) answer
+pub put_row : (change : Change) (answer : Answer) (before after : World) → StoresFile change answer before after → Ends (Some (Put change)) answer
 put_row change answer before after did =
     beside_row (Some (Put change)) is_of_beginning change.target.vault change.work _ _ answer before after did refl refl (file_begun change answer) (λ there. file_row change answer there.own)
-
--- what a command did tells an answer of its row
-pub in_row : (command : Option Command) (answer : Answer) (before after : World) → Executes command answer before after → Ends command answer
-in_row None answer before after did = elim did.answers [ inl bad ↦ subst (Ends None) (sym bad) refl | inr memory ↦ subst (Ends None) (sym memory) refl ]
-in_row (Some (DecryptFile key)) answer before after did = subst (Ends (Some (DecryptFile key))) (sym did.is) (decryption_row key did.end)
-in_row (Some (Ls target)) answer before after did = reading_row target answer did.reads.own
-in_row (Some (Cat target)) answer before after did = reading_row target answer did.reads.own
-in_row (Some (Fsck target)) answer before after did = checking_row target answer did.own
-in_row (Some (Repair target)) answer before after did = repair_row target answer before after did
-in_row (Some (Init new)) answer before after did = init_row new answer before after did
-in_row (Some (Mkdir change)) answer before after did = mkdir_row change answer before after did
-in_row (Some (Put change)) answer before after did = put_row change answer before after did
-in_row (Some (Migrate moving)) answer before after did = migrate_row moving answer before after did
-in_row (Some (Resume resuming)) answer before after did = resume_row resuming answer before after did
-in_row (Some (Retire resuming)) answer before after did = retire_row resuming answer before after did
-in_row (Some (Demo demonstration)) answer before after did = demonstration_row demonstration answer (did.ends.others tt) did.own did.steady
-
--- ---- over a folder that tells its state
-
--- a row of which nothing is said of a folder that contradicts itself
-told_same : (a : Bool) → IsTrue (a || false) → IsTrue a
-told_same true may = refl
-told_same false may = may
-
-pub in_told_row : (command : Option Command) (answer : Answer) (before after : World) → IfSeen before.told (λ v. OwnsFolders command v → Executes command answer before after → EndsTold command answer)
-in_told_row (Some (Migrate moving)) answer before after v seen folders did = migrate_told moving answer before after v seen folders did
-in_told_row (Some (Resume resuming)) answer before after v seen folders did = resume_told resuming answer before after v seen did
-in_told_row (Some (Retire resuming)) answer before after v seen folders did = retire_told resuming answer before after v seen did
-in_told_row command answer before after v seen folders did = told_same (may_end_told command (status_of answer)) (in_row command answer before after did)

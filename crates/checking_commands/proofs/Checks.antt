@@ -28,15 +28,15 @@ use Rattle.checking_commands.specs.Faults.{of_check}
 use Rattle.checking_commands.specs.Fsck.{IsReportOf, ShowsVault, Whole, TooMany, TooDeep, TooLong, ShowsReport, OpensWithin, ChecksVault, fault_part, finding_line, finding_name, is_of_checking, note_line, report_text}
 use Rattle.command_answers.specs.Messages.{name_numbered}
 use Rattle.checking_commands.specs.Lines.{answer_to_found, found_line, noted_line, told_text}
-use Rattle.command_opening.specs.Opening.{Opens}
-use Rattle.command_opening.specs.Refusing.{Unless}
-use Rattle.command_opening.specs.Shown.{Shown, Follows, refused}
-use Rattle.command_opening.specs.World.{World}
+use Rattle.open_for_reading.specs.Opening.{Opens}
+use Rattle.open_for_reading.specs.Refusing.{Unless}
+use Rattle.open_for_reading.specs.Shown.{Shown, Follows, refused}
+use Rattle.open_for_reading.specs.World.{World}
 use Rattle.command_answers.specs.declared.answer.Answer.{Answer}
 use Rattle.command_answers.specs.declared.answer.Answer.TheVariants.{Done, Findings, FolderFault, OutputFault}
 use Rattle.command_words.specs.declared.commands.Checking.{Checking}
-use Rattle.command_opening.proofs.Refusals.{opened_alike, opened_gives, opened_is}
-use Rattle.command_opening.proofs.Showing.{all_or_cut}
+use Rattle.open_for_reading.proofs.Refusals.{opened_alike, opened_gives, opened_is}
+use Rattle.open_for_reading.proofs.Showing.{all_or_cut}
 
 -- ---- lines
 

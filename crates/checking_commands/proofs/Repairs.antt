@@ -23,20 +23,20 @@ use Rattle.folder_spec.specs.Apart.{AreApart}
 use Rattle.vault_check.specs.declared.fault.CheckFault.{CheckFault}
 use Rattle.vault_check.specs.declared.fault.CheckFault.TheVariants as check
 use Rattle.checking_commands.specs.Faults.{of_check}
-use Rattle.command_opening.specs.Opening.{Opens}
-use Rattle.command_opening.specs.Refusing.{Unless, RefusesOpening}
-use Rattle.command_opening.specs.Places.{OfDirectory, OfMissing, OfFree, overlap, RefusesOverlap}
+use Rattle.open_for_reading.specs.Opening.{Opens}
+use Rattle.open_for_reading.specs.Refusing.{Unless, RefusesOpening}
+use Rattle.open_for_reading.specs.Places.{OfDirectory, OfMissing, OfFree, overlap, RefusesOverlap}
 use Rattle.checking_commands.specs.Repair.{IsOfMoving, Moved, TooMany, TooDeep, OfRepairing, OpensFree, MovesStrays, HasMovedStrays, RepairsApart, RepairsVault, is_of_test, moved_text}
-use Rattle.command_opening.specs.Tests.{is_of_moving}
+use Rattle.open_for_reading.specs.Tests.{is_of_moving}
 use Rattle.command_answers.specs.Printing.{PrintsText}
-use Rattle.command_opening.proofs.Printings.{IsPrinted, nothing_printed, printed, printed_is_own}
-use Rattle.command_opening.proofs.Overlaps.{apart_by, refuses_overlap}
-use Rattle.command_opening.specs.Shown.{IsCutShort, is_of_end, refused}
-use Rattle.command_opening.specs.World.{World}
+use Rattle.open_for_reading.proofs.Printings.{IsPrinted, nothing_printed, printed, printed_is_own}
+use Rattle.open_for_reading.proofs.Overlaps.{apart_by, refuses_overlap}
+use Rattle.open_for_reading.specs.Shown.{IsCutShort, is_of_end, refused}
+use Rattle.open_for_reading.specs.World.{World}
 use Rattle.command_answers.specs.declared.answer.Answer.{Answer}
 use Rattle.command_answers.specs.declared.answer.Answer.TheVariants.{Done, OutOfMemory, OutputFault, Overlap}
 use Rattle.command_words.specs.declared.commands.Repairing.{Repairing}
-use Rattle.command_opening.proofs.Refusals.{opened_gives, opened_is, unless_opened}
+use Rattle.open_for_reading.proofs.Refusals.{opened_gives, opened_is, unless_opened}
 
 -- ---- the tests
 

@@ -5,8 +5,8 @@ use Rattle.command_answers.specs.Answers.{status_of}
 use Rattle.command_answers.specs.Rows.{Ends, may_end}
 use Rattle.command_answers.specs.declared.answer.Answer.{Answer}
 use Rattle.command_answers.specs.declared.answer.Answer.TheVariants.{Done}
-use Rattle.command_opening.specs.Places.{overlap, RefusesOverlap}
-use Rattle.command_opening.specs.World.{World}
+use Rattle.open_for_reading.specs.Places.{overlap, RefusesOverlap}
+use Rattle.open_for_reading.specs.World.{World}
 use Rattle.command_words.specs.declared.commands.Checking.{Checking}
 use Rattle.command_words.specs.declared.commands.Command.TheVariants.{Fsck, Repair}
 use Rattle.command_words.specs.declared.commands.Repairing.{Repairing}

@@ -18,9 +18,9 @@ use Rattle.vault_walk.specs.Survey.{AreNotes, HasTooMany}
 use Rattle.vault_walk.specs.Surveyed.{IsOnlyTooDeep, IsWithin}
 use Rattle.vault_check.specs.Checking.{Reported, IsReported, AreReported, IsTooLong, NamesTooLong}
 use Rattle.command_answers.specs.Answers.{status_of}
-use Rattle.command_opening.specs.Opening.{Opens, OfOpened}
-use Rattle.command_opening.specs.Shown.{Shown, Follows, IsCutShort, is_of_opening, refused}
-use Rattle.command_opening.specs.World.{World}
+use Rattle.open_for_reading.specs.Opening.{Opens, OfOpened}
+use Rattle.open_for_reading.specs.Shown.{Shown, Follows, IsCutShort, is_of_opening, refused}
+use Rattle.open_for_reading.specs.World.{World}
 use Rattle.command_answers.specs.declared.answer.Answer.{Answer}
 use Rattle.command_answers.specs.declared.answer.Answer.TheVariants.{Done, Findings, FolderFault, OutputFault, Limit}
 use Rattle.command_answers.specs.declared.answer.Limit.TheVariants as limit

@@ -18,12 +18,12 @@ use Rattle.vault_walk.specs.Survey.{HasTooMany}
 use Rattle.vault_walk.specs.Surveyed.{IsOnlyTooDeep, IsWithin}
 use Rattle.vault_check.specs.Repairing.{AreMoved, IsRepairing, RepairsAt}
 use Rattle.folder_spec.specs.Apart.{AreApart}
-use Rattle.command_opening.specs.Opening.{Opens, OfOpened}
-use Rattle.command_opening.specs.Places.{OfFree, RefusesOverlap, overlap}
-use Rattle.command_opening.specs.Tests.{is_of_moving}
+use Rattle.open_for_reading.specs.Opening.{Opens, OfOpened}
+use Rattle.open_for_reading.specs.Places.{OfFree, RefusesOverlap, overlap}
+use Rattle.open_for_reading.specs.Tests.{is_of_moving}
 use Rattle.command_answers.specs.Printing.{PrintsDone}
-use Rattle.command_opening.specs.Shown.{IsCutShort, is_of_end, refused}
-use Rattle.command_opening.specs.World.{World}
+use Rattle.open_for_reading.specs.Shown.{IsCutShort, is_of_end, refused}
+use Rattle.open_for_reading.specs.World.{World}
 use Rattle.command_answers.specs.declared.answer.Answer.{Answer}
 use Rattle.command_answers.specs.declared.answer.Answer.TheVariants.{Done, Refused, WrongPass, NotFound, WrongKind, NotEmpty, Limit}
 use Rattle.command_answers.specs.declared.answer.Limit.TheVariants as limit

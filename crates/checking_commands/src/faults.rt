@@ -3,7 +3,7 @@ ghost use Rattle.std.specs.Prelude.{◌≡◌};
 ghost use Rattle.checking_commands.specs.Faults.{of_check};
 
 use command_answers::Answer;
-use command_opening::limit_of;
+use open_for_reading::limit_of;
 use vault_check::CheckFault;
 
 /// The answer to a check that doesn't come to its end.

@@ -3,20 +3,20 @@ ghost use Rattle.std.specs.Prelude.{◌≡◌, ◌⊎◌, ◌++◌, ℕ, Bool, f
 ghost use Rattle.folder_spec.specs.Seen.{IfSeen};
 ghost use Rattle.port_model.specs.Counts.{CountRose};
 ghost use Rattle.port_model.specs.Draws.{ByteStream};
-ghost use Rattle.command_opening.specs.Places.{overlap};
-ghost use Rattle.command_opening.specs.World.{World};
+ghost use Rattle.open_for_reading.specs.Places.{overlap};
+ghost use Rattle.open_for_reading.specs.World.{World};
 ghost use Rattle.command_answers.specs.Printing.{PrintsText};
-ghost use Rattle.command_opening.specs.Refusing.{Unless};
+ghost use Rattle.open_for_reading.specs.Refusing.{Unless};
 ghost use Rattle.checking_commands.specs.Repair.{HasMovedStrays, MovesStrays, OfRepairing, RepairsVault, is_of_test, moved_line, moved_text};
-ghost use Rattle.command_opening.specs.Tests.{is_of_moving};
+ghost use Rattle.open_for_reading.specs.Tests.{is_of_moving};
 ghost use Rattle.command_answers.specs.Rows.{Ends};
 ghost use Rattle.command_words.specs.declared.commands.Command.TheVariants.{Repair};
 
 use crate::faults::answer_to_check;
 use command_answers::{Answer, print, shown_folder};
-use command_opening::{do_overlap, open, overlapping, test_free};
 use command_words::commands::Repairing;
 use folder_model::{FPath, Folder};
+use open_for_reading::{do_overlap, open, overlapping, test_free};
 use port_model::Sink;
 use std::alloc::{AllocError, Global};
 use vault_check::laws::{repaired_vaults_have_no_strays, repairs_keep_what_opens};

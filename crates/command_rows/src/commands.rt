@@ -1,7 +1,7 @@
 //! Lines that run the program's commands.
 use crate::layer::layer;
-use row_layers::places::{WORK, need_done, place};
-use row_stage::{Player, Stage, Stop};
+use row_calls::places::{WORK, need_done, place};
+use row_playing::{Player, Stage, Stop};
 use row_words::cut;
 use std::alloc::{AllocError, Global};
 use vault_cli::{demo_in, run};

@@ -1,12 +1,12 @@
 //! Lines that call a layer below the commands, or the folder itself.
 use crate::moving::call_moving;
-use row_layers::folders::{deep, let_fail, many};
-use row_layers::places::{drop_said, need_done};
-use row_layers::{
+use row_calls::folders::{deep, let_fail, many};
+use row_calls::places::{drop_said, need_done};
+use row_calls::{
     call_demonstration, call_folder, call_journal, call_mapping, call_matching, call_paths,
     call_reading, call_staging, call_walking, call_work, call_writing,
 };
-use row_stage::{Handed, Stage, Stop};
+use row_playing::{Handed, Stage, Stop};
 use row_words::cut;
 
 // Changes the last bit of a byte of the input.

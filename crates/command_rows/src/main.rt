@@ -6,7 +6,7 @@ mod layer;
 mod moving;
 
 use commands::Commands;
-use row_stage::Book;
+use row_playing::Book;
 use std::process::ExitCode;
 use std::{env, fs, io};
 

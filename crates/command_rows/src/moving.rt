@@ -6,13 +6,13 @@ use migration_sides::Side;
 use move_journal::JournalFault;
 use plain_tree::{NameMap, PlainPath};
 use retire_core::{RetireFault, Retired, retire};
-use row_layers::faults::{
+use row_calls::faults::{
     journal_fault, load_fault, match_fault, path_fault, plain_fault, put_fault, walk_fault,
     work_fault,
 };
-use row_layers::journals::parsed;
-use row_layers::places::PASSPHRASE;
-use row_stage::{Handed, Stage, Stop};
+use row_calls::journals::parsed;
+use row_calls::places::PASSPHRASE;
+use row_playing::{Handed, Stage, Stop};
 use row_words::{Said, cut};
 use tree_match::Where;
 use vault_read::LoadFault;

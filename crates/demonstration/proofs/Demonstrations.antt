@@ -17,7 +17,7 @@ use Rattle.port_model.specs.Draws.{ByteStream}
 use Rattle.port_model.specs.Told.{AppendsPrefix}
 use Rattle.command_answers.specs.Messages.{is_plain}
 use Rattle.demonstration.specs.Demo.{Chances, Demonstrates, EndsSo, EndsWork, IsBare, IsLed, IsStatus, IsWay, IsWayBack, OnArrival, OnEnd, PrintsAll, PrintsBack, PrintsBy, PrintsDemonstration, PrintsLed, PrintsWay, TakesBy, Way, StoppedThere, StoppedBack, Arrived, SharesOne, back_text, chances, chances_of, is_of_chance, is_of_demonstration, is_of_fault, is_of_folder, is_of_telling, led_text, made_text, moved_text, retired_text, way_of, way_text}
-use Rattle.command_opening.specs.World.{World}
+use Rattle.open_for_reading.specs.World.{World}
 use Rattle.command_answers.specs.declared.answer.Answer.{Answer}
 use Rattle.command_answers.specs.declared.answer.Answer.TheVariants.{Done, OutOfMemory, ZeroRandom, Taken}
 use Rattle.demonstration.specs.declared.demonstrating.Way.{Way as Ended}
@@ -28,7 +28,7 @@ use Rattle.demonstration.specs.declared.leading.Led.TheVariants.{Stopped}
 use Rattle.demonstration.specs.declared.leading.Leg.{Leg}
 use Rattle.demonstration.specs.declared.leading.Leg.TheVariants.{There, Back}
 use Rattle.command_words.specs.declared.commands.Demonstration.{Demonstration}
-use Rattle.command_opening.proofs.Counts.{rose_after}
+use Rattle.open_for_reading.proofs.Counts.{rose_after}
 use Rattle.demonstration.proofs.DemoDraws.{drew_after}
 
 -- nothing is a front part of any text

@@ -4,7 +4,7 @@ use Rattle.command_answers.specs.Answers.{status_of}
 use Rattle.command_answers.specs.Rows.{Ends, may_end}
 use Rattle.command_answers.specs.declared.answer.Answer.{Answer}
 use Rattle.command_answers.specs.declared.answer.Answer.TheVariants.{FolderFault}
-use Rattle.command_opening.specs.World.{World}
+use Rattle.open_for_reading.specs.World.{World}
 use Rattle.command_words.specs.declared.commands.Command.TheVariants.{Demo}
 use Rattle.command_words.specs.declared.commands.Demonstration.{Demonstration}
 use Rattle.demonstration.specs.Demo.{Demonstrates, is_of_chance, is_of_demonstration}

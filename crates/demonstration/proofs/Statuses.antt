@@ -9,8 +9,8 @@ use Rattle.tree_match.specs.declared.answer.MatchFault.TheVariants as match
 use Rattle.vault_faults.specs.declared.fault.Limit.TheVariants as limit
 use Rattle.command_answers.specs.Answers.{status_of}
 use Rattle.demonstration.specs.Demo.{EndsWork, chances_by, is_status_of_chance}
-use Rattle.moving_answers.specs.Faults.{of_move}
-use Rattle.moving_answers.specs.Stops.{is_of_stop}
+use Rattle.migration_answers.specs.Faults.{of_move}
+use Rattle.migration_answers.specs.Stops.{is_of_stop}
 use Rattle.command_answers.specs.declared.answer.Answer.{Answer}
 use Rattle.command_answers.specs.declared.answer.Answer.TheVariants.{Done, OutOfMemory, FolderFault, RandomFault, ZeroRandom, Taken}
 use Rattle.command_answers.proofs.Reports.{with_status}

@@ -18,8 +18,8 @@ use Rattle.port_model.specs.Draws.{ByteStream}
 use Rattle.port_model.specs.Told.{AppendsPrefix}
 use Rattle.tree_match.specs.declared.answer.MatchFault.TheVariants as match
 use Rattle.vault_faults.specs.declared.fault.Limit.TheVariants as limit
-use Rattle.moving_answers.specs.Stops.{is_of_stop}
-use Rattle.command_opening.specs.World.{World}
+use Rattle.migration_answers.specs.Stops.{is_of_stop}
+use Rattle.open_for_reading.specs.World.{World}
 use Rattle.command_answers.specs.declared.answer.Answer.{Answer}
 use Rattle.command_answers.specs.declared.answer.Answer.TheVariants.{Done, OutOfMemory, FolderFault, OutputFault, RandomFault, Unusable, ZeroRandom, Taken}
 use Rattle.demonstration.specs.declared.leading.Led.{Led}

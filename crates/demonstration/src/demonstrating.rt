@@ -2,14 +2,14 @@
 ghost use Rattle.std.specs.Prelude.{◌≡◌, ◌≤◌, ℕ, Bool, List, Option, Err, IfErr, IfOk, OnOk, IsTrue, Some};
 ghost use Rattle.command_answers.specs.Answers.{status_of};
 ghost use Rattle.command_answers.specs.Messages.{TakesText, line_of};
-ghost use Rattle.command_opening.specs.World.{World};
+ghost use Rattle.open_for_reading.specs.World.{World};
 ghost use Rattle.demo_core.specs.Drawing.{Drew};
 ghost use Rattle.demo_core.specs.Sharing.{GoesOn};
 ghost use Rattle.demonstration.specs.Demo.{Demonstrates, EndsSo, IsBare, OnEnd, PrintsAll, PrintsBack, PrintsDemonstration, PrintsWay, chances, chances_of, is_of_demonstration, is_of_fault};
 ghost use Rattle.demonstration.specs.DemoSteps.{CanLead, Sees};
 ghost use Rattle.demonstration.specs.DemoTrees.{BringsItems, Leads, LeadsBoth, MakesItems, WhereTold, second_root, third_root};
 ghost use Rattle.folder_spec.specs.Event.{Told};
-ghost use Rattle.moving_answers.specs.Stops.{is_of_stop};
+ghost use Rattle.migration_answers.specs.Stops.{is_of_stop};
 ghost use Rattle.port_model.specs.Counts.{CountRose};
 ghost use Rattle.port_model.specs.Draws.{ByteStream};
 ghost use Rattle.command_answers.specs.Rows.{Ends};

@@ -3,14 +3,14 @@ ghost use Rattle.std.specs.Prelude.{◌≡◌, IsTrue};
 ghost use Rattle.demo_core.specs.Making.{IsFailed, IsMakeFault, IsOfItems, IsTaken};
 ghost use Rattle.demonstration.specs.Demo.{is_of_chance};
 ghost use Rattle.folder_spec.specs.Path.{Path};
-ghost use Rattle.moving_answers.specs.Stops.{is_of_stop};
+ghost use Rattle.migration_answers.specs.Stops.{is_of_stop};
 
 use command_answers::Answer;
-use command_beginning::{answer_to_put, answer_to_work};
-use command_opening::answer_to_load;
 use content_writing::PutFault;
 use demo_core::{MakeFault, place};
 use folder_model::FPath;
+use open_for_changing::{answer_to_put, answer_to_work};
+use open_for_reading::answer_to_load;
 use std::alloc::Global;
 
 /// The answer to a vault at this root that isn't made, or an item in it.

@@ -25,18 +25,18 @@ use Rattle.vault_spec.specs.Vault.{Vault, format_of}
 use Rattle.vault_spec.specs.declared.Lack.TheVariants as lacks
 use Rattle.reading_commands.specs.Cat.{OpensFile, ShowsContent, ShowsFile, answer_to_ending, is_of_finding, shown_reading}
 use Rattle.reading_commands.specs.Faults.{of_cat}
-use Rattle.command_opening.specs.Faults.{of_find}
+use Rattle.open_for_reading.specs.Faults.{of_find}
 use Rattle.reading_commands.specs.Finding.{answer_to_finding}
-use Rattle.command_opening.specs.Opening.{Opens}
-use Rattle.command_opening.specs.Refusing.{Unless}
-use Rattle.command_opening.specs.Shown.{Shown, refused, Follows, IsCutShort, Reads, is_of_reading}
+use Rattle.open_for_reading.specs.Opening.{Opens}
+use Rattle.open_for_reading.specs.Refusing.{Unless}
+use Rattle.open_for_reading.specs.Shown.{Shown, refused, Follows, IsCutShort, Reads, is_of_reading}
 use Rattle.command_answers.specs.declared.answer.Answer.{Answer}
 use Rattle.command_answers.specs.declared.answer.Answer.TheVariants.{Done, FolderFault, Damaged, Limit}
 use Rattle.command_answers.specs.declared.answer.Damage.TheVariants as damage
 use Rattle.command_answers.specs.declared.answer.Limit.TheVariants as limit
 use Rattle.command_words.specs.declared.commands.Target.{Target}
-use Rattle.command_opening.proofs.Refusals.{opened_gives, opened_is, opened_one}
-use Rattle.command_opening.proofs.Showing.{IsOne, all_or_cut, follows_unless, reads_by}
+use Rattle.open_for_reading.proofs.Refusals.{opened_gives, opened_is, opened_one}
+use Rattle.open_for_reading.proofs.Showing.{IsOne, all_or_cut, follows_unless, reads_by}
 
 -- a refusal to find, as it is answered
 pub find_refused : {T : Type 0} (root : Path) (found : Result T Refusal) (fault : FindFault) → Refuses root found fault

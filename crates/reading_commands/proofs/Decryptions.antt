@@ -9,7 +9,7 @@ use Rattle.chunk_files.specs.declared.fault.ChunkFault.{ChunkFault}
 use Rattle.reading_commands.specs.DecryptFile.{DecryptsFile, IsCutOff, answer_to_end, end_of}
 use Rattle.reading_commands.specs.Decrypts.{TakesNear, TellsOf, Writes, input_reading}
 use Rattle.reading_commands.specs.Inputs.{TakesAtMost, input_limit}
-use Rattle.command_opening.specs.World.{World}
+use Rattle.open_for_reading.specs.World.{World}
 use Rattle.command_answers.specs.declared.answer.Answer.TheVariants as answers
 use Rattle.reading_commands.specs.declared.decrypting.DecryptEnd.{DecryptEnd}
 use Rattle.reading_commands.specs.declared.decrypting.DecryptEnd.TheVariants.{Done, OutOfMemory, InputFault, OutputFault, Damaged, TooLong}

@@ -11,12 +11,12 @@ use Rattle.vault_spec.specs.Listing.{Listed, AreListed}
 use Rattle.vault_spec.specs.Vault.{Vault, format_of}
 use Rattle.reading_commands.specs.Finding.{answer_to_finding}
 use Rattle.reading_commands.specs.Ls.{OpensDirectory, ShowsItems, ls_text}
-use Rattle.command_opening.specs.Shown.{IsCutShort, Reads, Shown, refused}
+use Rattle.open_for_reading.specs.Shown.{IsCutShort, Reads, Shown, refused}
 use Rattle.command_answers.specs.declared.answer.Answer.{Answer}
 use Rattle.command_answers.specs.declared.answer.Answer.TheVariants.{Done}
 use Rattle.command_words.specs.declared.commands.Target.{Target}
-use Rattle.command_opening.proofs.Refusals.{opened_is, opened_one}
-use Rattle.command_opening.proofs.Showing.{IsOne, all_or_cut}
+use Rattle.open_for_reading.proofs.Refusals.{opened_is, opened_one}
+use Rattle.open_for_reading.proofs.Showing.{IsOne, all_or_cut}
 
 -- a directory has one list of its items
 abbrev pub HaveOneList : Type 0

@@ -4,8 +4,8 @@ use Rattle.command_answers.specs.Answers.{status_of}
 use Rattle.command_answers.specs.Rows.{Ends, may_end}
 use Rattle.command_answers.specs.declared.answer.Answer.{Answer}
 use Rattle.command_answers.specs.declared.answer.Answer.TheVariants.{Done}
-use Rattle.command_opening.specs.Shown.{is_of_reading}
-use Rattle.command_opening.specs.World.{World}
+use Rattle.open_for_reading.specs.Shown.{is_of_reading}
+use Rattle.open_for_reading.specs.World.{World}
 use Rattle.command_words.specs.declared.commands.Command.TheVariants.{DecryptFile, Ls, Cat}
 use Rattle.command_words.specs.declared.commands.Target.{Target}
 use Rattle.reading_commands.specs.Cat.{WritesFile}

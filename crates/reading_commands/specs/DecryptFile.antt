@@ -7,7 +7,7 @@ use Rattle.chunk_files.specs.Reading.{Ending, Whole, Wanting, Faulty}
 use Rattle.chunk_files.specs.declared.fault.ChunkFault.{ChunkFault}
 use Rattle.reading_commands.specs.Decrypts.{TakesNear, TellsOf, Writes, input_reading}
 use Rattle.reading_commands.specs.Inputs.{TakesAtMost, input_limit}
-use Rattle.command_opening.specs.World.{World}
+use Rattle.open_for_reading.specs.World.{World}
 use Rattle.command_answers.specs.declared.answer.Answer.{Answer}
 use Rattle.command_answers.specs.declared.answer.Answer.TheVariants as answer
 use Rattle.command_answers.specs.declared.answer.Limit.TheVariants as limit

@@ -4,7 +4,7 @@ use Rattle.vault_faults.specs.declared.fault.CatFault.TheVariants as cat
 use Rattle.command_answers.specs.declared.answer.Answer.{Answer}
 use Rattle.command_answers.specs.declared.answer.Answer.TheVariants.{OutOfMemory, FolderFault, OutputFault, Damaged, Limit}
 use Rattle.command_answers.specs.declared.answer.Damage.TheVariants as damage
-use Rattle.command_opening.specs.Faults.{of_find, of_limit}
+use Rattle.open_for_reading.specs.Faults.{of_find, of_limit}
 
 abbrev pub of_cat : CatFault → Answer
 of_cat (cat.Find fault) = of_find fault

@@ -12,9 +12,9 @@ use Rattle.vault_spec.specs.Format.{Directory}
 use Rattle.vault_spec.specs.Listing.{Listed, AreListed}
 use Rattle.vault_spec.specs.Vault.{Vault, format_of}
 use Rattle.reading_commands.specs.Finding.{answer_to_finding}
-use Rattle.command_opening.specs.Opening.{OfOpened, Opens}
-use Rattle.command_opening.specs.Shown.{IsCutShort, Reads, Shown, refused}
-use Rattle.command_opening.specs.World.{World}
+use Rattle.open_for_reading.specs.Opening.{OfOpened, Opens}
+use Rattle.open_for_reading.specs.Shown.{IsCutShort, Reads, Shown, refused}
+use Rattle.open_for_reading.specs.World.{World}
 use Rattle.command_answers.specs.declared.answer.Answer.{Answer}
 use Rattle.command_answers.specs.declared.answer.Answer.TheVariants.{Done, OutputFault}
 use Rattle.command_words.specs.declared.commands.Target.{Target}

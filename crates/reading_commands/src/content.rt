@@ -3,15 +3,15 @@ ghost use Rattle.std.specs.Prelude.{◌≡◌, ℕ, Bool, List, Option, Some};
 ghost use Rattle.port_model.specs.Counts.{CountRose};
 ghost use Rattle.port_model.specs.Draws.{ByteStream};
 ghost use Rattle.reading_commands.specs.Cat.{WritesFile};
-ghost use Rattle.command_opening.specs.World.{World};
+ghost use Rattle.open_for_reading.specs.World.{World};
 ghost use Rattle.command_answers.specs.Rows.{Ends};
 ghost use Rattle.command_words.specs.declared.commands.Command.TheVariants.{Cat};
 
 use crate::faults::answer_to_cat;
 use command_answers::Answer;
-use command_opening::open;
 use command_words::commands::Target;
 use folder_model::Folder;
+use open_for_reading::open;
 use port_model::Sink;
 use std::alloc::Global;
 use vault_read::laws::roots_have_one_answer;

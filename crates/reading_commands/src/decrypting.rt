@@ -4,7 +4,7 @@ ghost use Rattle.std.specs.Io.KnownBytes.{IsAtEnd};
 ghost use Rattle.port_model.specs.Counts.{CountRose};
 ghost use Rattle.folder_spec.specs.Event.{Told};
 ghost use Rattle.port_model.specs.Draws.{ByteStream};
-ghost use Rattle.command_opening.specs.World.{World};
+ghost use Rattle.open_for_reading.specs.World.{World};
 ghost use Rattle.reading_commands.specs.DecryptFile.{DecryptsFile};
 ghost use Rattle.reading_commands.specs.Inputs.{TakesAtMost, input_limit};
 ghost use Rattle.reading_commands.specs.Decrypts.{TakesNear, TellsOf, Writes, input_reading};

@@ -4,7 +4,7 @@ ghost use Rattle.reading_commands.specs.Faults.{of_cat};
 
 use crate::decrypting::DecryptEnd;
 use command_answers::{Answer, Damage, Limit};
-use command_opening::{answer_to_find, limit_of};
+use open_for_reading::{answer_to_find, limit_of};
 use vault_faults::CatFault;
 
 /// The answer to a content that isn't written whole.

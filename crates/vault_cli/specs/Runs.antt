@@ -8,13 +8,13 @@ use Rattle.demonstration.specs.Demo.{Demonstrates}
 use Rattle.checking_commands.specs.Fsck.{ChecksVault}
 use Rattle.writing_commands.specs.Init.{MakesVault}
 use Rattle.reading_commands.specs.Ls.{ListsItems}
-use Rattle.moving_commands.specs.Migrate.{MigratesTree, OwnFolders}
+use Rattle.migration_commands.specs.Migrate.{MigratesTree, OwnFolders}
 use Rattle.writing_commands.specs.Mkdir.{MakesDirectoryIn}
 use Rattle.writing_commands.specs.Put.{StoresFile}
 use Rattle.checking_commands.specs.Repair.{RepairsVault}
-use Rattle.moving_commands.specs.Resume.{ResumesTree}
-use Rattle.moving_commands.specs.Retire.{RetiresSource}
-use Rattle.command_opening.specs.World.{World}
+use Rattle.migration_commands.specs.Resume.{ResumesTree}
+use Rattle.migration_commands.specs.Retire.{RetiresSource}
+use Rattle.open_for_reading.specs.World.{World}
 use Rattle.command_answers.specs.declared.answer.Answer.{Answer}
 use Rattle.command_answers.specs.declared.answer.Answer.TheVariants.{BadCommandLine, OutOfMemory}
 use Rattle.command_words.specs.declared.commands.Command.{Command}

@@ -8,7 +8,7 @@ ghost use Rattle.folder_spec.specs.Seen.{IfSeen};
 ghost use Rattle.command_words.specs.Commands.{command_of};
 ghost use Rattle.command_words.specs.Written.{HasTexts, IsSmall};
 ghost use Rattle.vault_cli.specs.Runs.{Executes, OwnsFolders, Runs};
-ghost use Rattle.command_opening.specs.World.{World};
+ghost use Rattle.open_for_reading.specs.World.{World};
 
 use checking_commands::{fsck, repair};
 use command_answers::laws::{reports_are_answers, words_alone_end_with_2};
@@ -16,7 +16,7 @@ use command_answers::{Answer, report};
 use command_words::commands::Command;
 use demonstration::demo;
 use folder_model::Folder;
-use moving_commands::{migrate, resume, retire};
+use migration_commands::{migrate, resume, retire};
 use port_model::{Randoms, Sink, Source};
 use reading_commands::{cat, decrypt_file, ls};
 use std::alloc::Global;

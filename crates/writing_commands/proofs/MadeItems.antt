@@ -25,20 +25,20 @@ use Rattle.content_writing.specs.Making.{Placing, Making, format, path_of, is_el
 use Rattle.content_writing.specs.Placing.{ShowsOne, ShowsNewTree, IsMaking, EndsAs, making_at}
 use Rattle.content_writing.specs.Trees.{KeepsTree, GainsItem, opens_as}
 use Rattle.work_folder.specs.Entering.{EntersAs}
-use Rattle.command_beginning.proofs.Beginnings.{Alike, Begins, Outside, apart_of_both, apart_of_unstaged, as_before_in, as_before_then, begun_then, same_under, seen_after, seen_alike, went_alone}
-use Rattle.command_beginning.proofs.Endings.{ended_before, made_beside}
-use Rattle.command_opening.proofs.Refusals.{pass_gives, unless_then}
-use Rattle.command_beginning.proofs.Sites.{site_then}
-use Rattle.command_beginning.specs.Beginning.{ChangesOnlyWork, IsBeginning, ChangesWork, OfSite, OfWork}
-use Rattle.command_opening.specs.Tests.{is_of_beginning}
+use Rattle.open_for_changing.proofs.Beginnings.{Alike, Begins, Outside, apart_of_both, apart_of_unstaged, as_before_in, as_before_then, begun_then, same_under, seen_after, seen_alike, went_alone}
+use Rattle.open_for_changing.proofs.Endings.{ended_before, made_beside}
+use Rattle.open_for_reading.proofs.Refusals.{pass_gives, unless_then}
+use Rattle.open_for_changing.proofs.Sites.{site_then}
+use Rattle.open_for_changing.specs.Beginning.{ChangesOnlyWork, IsBeginning, ChangesWork, OfSite, OfWork}
+use Rattle.open_for_reading.specs.Tests.{is_of_beginning}
 use Rattle.writing_commands.specs.Faults.{answer_to_making}
 use Rattle.writing_commands.specs.Items.{ChangesThere, ChangesVault, ShowsOneBeside, ShowsNewTreeBeside, IsMakingBeside, MakesNamed, MakesItem, MakesIn}
 use Rattle.writing_commands.specs.Mkdir.{MakesDirectoryIn, is_of_directory}
-use Rattle.command_opening.specs.Opening.{Opens, OfVault}
-use Rattle.command_opening.specs.Places.{overlap}
-use Rattle.command_beginning.specs.Refusing.{RefusesSite}
-use Rattle.command_opening.specs.Shown.{refused}
-use Rattle.command_opening.specs.World.{World}
+use Rattle.open_for_reading.specs.Opening.{Opens, OfVault}
+use Rattle.open_for_reading.specs.Places.{overlap}
+use Rattle.open_for_changing.specs.Refusing.{RefusesSite}
+use Rattle.open_for_reading.specs.Shown.{refused}
+use Rattle.open_for_reading.specs.World.{World}
 use Rattle.command_answers.specs.declared.answer.Answer.{Answer}
 use Rattle.command_answers.specs.declared.answer.Answer.TheVariants.{OutOfMemory, Overlap}
 use Rattle.command_words.specs.declared.commands.Change.{Change}

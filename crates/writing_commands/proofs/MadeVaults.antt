@@ -26,22 +26,22 @@ use Rattle.vault_spec.specs.Vault.{Vault}
 use Rattle.vault_write.specs.Founding.{Founds, FoundsCm, IsFounding, IsNewVault, founding, new_go, new_cm, texts, vault_edit}
 use Rattle.content_writing.specs.Making.{StagesOrPlaces, is_apart, is_unstaged}
 use Rattle.work_folder.specs.Entering.{EntersAs}
-use Rattle.command_beginning.proofs.Beginnings.{Begins, apart_of_both, apart_of_unstaged, as_before_in, as_before_then, begun_then, seen_after, unstaged}
-use Rattle.command_beginning.proofs.Endings.{ended_before, ends_before, made_beside}
-use Rattle.command_opening.proofs.Overlaps.{apart_by, none_drawn}
-use Rattle.command_opening.proofs.Refusals.{pass_gives, pass_then}
-use Rattle.command_beginning.proofs.Sites.{begins_nowhere, work_then}
-use Rattle.command_beginning.specs.Beginning.{IsBeginning, ChangesWork, MakesApart}
-use Rattle.command_opening.specs.Tests.{is_of_readying}
-use Rattle.command_opening.specs.Places.{OfDirectory, OfMissing, overlap}
+use Rattle.open_for_changing.proofs.Beginnings.{Begins, apart_of_both, apart_of_unstaged, as_before_in, as_before_then, begun_then, seen_after, unstaged}
+use Rattle.open_for_changing.proofs.Endings.{ended_before, ends_before, made_beside}
+use Rattle.open_for_reading.proofs.Overlaps.{apart_by, none_drawn}
+use Rattle.open_for_reading.proofs.Refusals.{pass_gives, pass_then}
+use Rattle.open_for_changing.proofs.Sites.{begins_nowhere, work_then}
+use Rattle.open_for_changing.specs.Beginning.{IsBeginning, ChangesWork, MakesApart}
+use Rattle.open_for_reading.specs.Tests.{is_of_readying}
+use Rattle.open_for_reading.specs.Places.{OfDirectory, OfMissing, overlap}
 use Rattle.writing_commands.specs.Faults.{answer_to_making}
 use Rattle.writing_commands.specs.Init.{FoundsAs, FoundsNew, FoundsVault, IsMakingVault, IsOfFounding, MakesVault, DrawsCryptomator, DrawsVault, OfNewPlace, OfPlace, RefusesPlace, cm_cost, cost_of}
-use Rattle.command_opening.specs.Opening.{IsPhrase}
-use Rattle.command_opening.specs.Refusing.{RefusesPass, Unless}
-use Rattle.command_beginning.specs.Refusing.{RefusesWork}
-use Rattle.command_opening.specs.Shown.{refused}
+use Rattle.open_for_reading.specs.Opening.{IsPhrase}
+use Rattle.open_for_reading.specs.Refusing.{RefusesPass, Unless}
+use Rattle.open_for_changing.specs.Refusing.{RefusesWork}
+use Rattle.open_for_reading.specs.Shown.{refused}
 use Rattle.command_answers.specs.declared.answer.Answer.{Answer}
-use Rattle.command_opening.specs.World.{World}
+use Rattle.open_for_reading.specs.World.{World}
 use Rattle.command_answers.specs.declared.answer.Answer.TheVariants.{OutOfMemory, Overlap}
 use Rattle.command_words.specs.declared.commands.NewVault.{NewVault}
 

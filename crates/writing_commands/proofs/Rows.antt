@@ -18,15 +18,15 @@ use Rattle.command_words.specs.declared.commands.Command.TheVariants.{Init, Mkdi
 use Rattle.command_words.specs.declared.commands.NewVault.{NewVault}
 use Rattle.command_words.specs.declared.values.Format.{Format}
 use Rattle.command_words.specs.declared.values.Format.TheVariants.{Gocryptfs, Cryptomator, CryptomatorCtrMac}
-use Rattle.command_beginning.specs.Faults.{of_put}
-use Rattle.command_beginning.specs.Beginning.{MakesApart, MakesBeside}
-use Rattle.command_opening.specs.Tests.{is_of_beginning, is_of_readying}
+use Rattle.open_for_changing.specs.Faults.{of_put}
+use Rattle.open_for_changing.specs.Beginning.{MakesApart, MakesBeside}
+use Rattle.open_for_reading.specs.Tests.{is_of_beginning, is_of_readying}
 use Rattle.writing_commands.specs.Faults.{answer_to_making}
 use Rattle.writing_commands.specs.Init.{DrawsCryptomator, DrawsVault, MakesVault}
 use Rattle.writing_commands.specs.Mkdir.{MakesDirectoryIn, is_of_directory}
-use Rattle.command_opening.specs.Places.{overlap, RefusesOverlap}
+use Rattle.open_for_reading.specs.Places.{overlap, RefusesOverlap}
 use Rattle.writing_commands.specs.Put.{StoresFile, is_of_file}
-use Rattle.command_opening.specs.World.{World}
+use Rattle.open_for_reading.specs.World.{World}
 
 -- ---- by the answer: the first clause takes one, and the last each of the others
 

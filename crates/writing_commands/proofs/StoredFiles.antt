@@ -18,16 +18,16 @@ use Rattle.vault_spec.specs.Making.{NewFile}
 use Rattle.vault_spec.specs.Vault.{Vault}
 use Rattle.vault_write.specs.Calls.{InPlace, MakesAt, MakesFile, TakesContent, Writing}
 use Rattle.work_folder.specs.Entering.{EntersAs}
-use Rattle.command_beginning.proofs.Beginnings.{Alike, Outside}
+use Rattle.open_for_changing.proofs.Beginnings.{Alike, Outside}
 use Rattle.writing_commands.proofs.MadeItems.{item_made, vault_changed}
 use Rattle.writing_commands.proofs.Makings.{all_done}
-use Rattle.command_beginning.specs.Beginning.{ChangesWork}
+use Rattle.open_for_changing.specs.Beginning.{ChangesWork}
 use Rattle.writing_commands.specs.Faults.{answer_to_making}
 use Rattle.writing_commands.specs.Items.{MakesIn}
-use Rattle.command_opening.specs.Opening.{Opens}
-use Rattle.command_opening.specs.Places.{overlap}
+use Rattle.open_for_reading.specs.Opening.{Opens}
+use Rattle.open_for_reading.specs.Places.{overlap}
 use Rattle.writing_commands.specs.Put.{StoresFile, StoresIn, TakesInput, is_of_file}
-use Rattle.command_opening.specs.World.{World}
+use Rattle.open_for_reading.specs.World.{World}
 use Rattle.command_answers.specs.declared.answer.Answer.{Answer}
 use Rattle.command_answers.specs.declared.answer.Answer.TheVariants.{Done}
 use Rattle.command_words.specs.declared.commands.Change.{Change}

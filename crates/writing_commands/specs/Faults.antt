@@ -3,7 +3,7 @@ use Rattle.std.specs.Prelude.{Result, Ok, Err}
 use Rattle.content_writing.specs.declared.fault.PutFault.{PutFault}
 use Rattle.command_answers.specs.declared.answer.Answer.{Answer}
 use Rattle.command_answers.specs.declared.answer.Answer.TheVariants.{Done}
-use Rattle.command_beginning.specs.Faults.{of_put}
+use Rattle.open_for_changing.specs.Faults.{of_put}
 
 -- the answer to a call that makes something
 abbrev pub answer_to_making : Result (Unit {0}) PutFault → Answer

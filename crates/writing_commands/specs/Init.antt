@@ -23,13 +23,13 @@ use Rattle.vault_spec.specs.NewVault.{go_files, cm_files, new_go_vault, new_cm_v
 use Rattle.vault_spec.specs.Vault.{Vault}
 use Rattle.vault_write.specs.Founding.{FoundsGo, FoundsCm, IsGoDraw, IsCmDraw, GoDrew, CmDrew, IsNewVault, founding, texts, vault_edit}
 use Rattle.content_writing.specs.Making.{StagesOrPlaces}
-use Rattle.command_opening.specs.Tests.{is_of_readying}
-use Rattle.command_beginning.specs.Beginning.{MakesBeside, OfWork}
-use Rattle.command_opening.specs.Places.{OfFree}
+use Rattle.open_for_reading.specs.Tests.{is_of_readying}
+use Rattle.open_for_changing.specs.Beginning.{MakesBeside, OfWork}
+use Rattle.open_for_reading.specs.Places.{OfFree}
 use Rattle.writing_commands.specs.Faults.{answer_to_making}
-use Rattle.command_opening.specs.Opening.{IsPhrase, OfPassFile}
-use Rattle.command_opening.specs.Shown.{refused}
-use Rattle.command_opening.specs.World.{World}
+use Rattle.open_for_reading.specs.Opening.{IsPhrase, OfPassFile}
+use Rattle.open_for_reading.specs.Shown.{refused}
+use Rattle.open_for_reading.specs.World.{World}
 use Rattle.command_answers.specs.declared.answer.Answer.{Answer}
 use Rattle.command_answers.specs.declared.answer.Answer.TheVariants.{Done, RandomFault, ZeroRandom}
 use Rattle.command_words.specs.declared.commands.NewVault.{NewVault}

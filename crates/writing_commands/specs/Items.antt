@@ -24,10 +24,10 @@ use Rattle.content_writing.specs.Making.{Placing, Making, format, path_of, Stage
 use Rattle.content_writing.specs.Placing.{ShowsOne, EndsAs, making_at}
 use Rattle.content_writing.specs.Trees.{KeepsTree, GainsItem, opens_as}
 use Rattle.writing_commands.specs.Faults.{answer_to_making}
-use Rattle.command_beginning.specs.Beginning.{ChangesOnlyWork, MakesBeside, OfSite}
-use Rattle.command_opening.specs.Opening.{Opens}
-use Rattle.command_opening.specs.Tests.{is_of_beginning}
-use Rattle.command_opening.specs.World.{World}
+use Rattle.open_for_changing.specs.Beginning.{ChangesOnlyWork, MakesBeside, OfSite}
+use Rattle.open_for_reading.specs.Opening.{Opens}
+use Rattle.open_for_reading.specs.Tests.{is_of_beginning}
+use Rattle.open_for_reading.specs.World.{World}
 use Rattle.command_answers.specs.declared.answer.Answer.{Answer}
 use Rattle.command_words.specs.declared.commands.Change.{Change}
 

@@ -5,7 +5,7 @@ use Rattle.content_writing.specs.Content.{Whole}
 use Rattle.vault_spec.specs.Making.{NewDirectory}
 use Rattle.vault_write.specs.Calls.{New}
 use Rattle.writing_commands.specs.Items.{ChangesVault, MakesIn}
-use Rattle.command_opening.specs.World.{World}
+use Rattle.open_for_reading.specs.World.{World}
 use Rattle.command_answers.specs.declared.answer.Answer.{Answer}
 use Rattle.command_answers.specs.declared.answer.Answer.TheVariants.{Done, OutOfMemory, FolderFault, RandomFault, NotFound, WrongKind, Damaged, NotAllowed, ZeroRandom, Taken}
 use Rattle.command_words.specs.declared.commands.Change.{Change}

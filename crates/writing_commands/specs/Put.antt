@@ -8,7 +8,7 @@ use Rattle.vault_spec.specs.Making.{NewFile}
 use Rattle.vault_spec.specs.Vault.{Vault}
 use Rattle.vault_write.specs.Calls.{InPlace}
 use Rattle.writing_commands.specs.Items.{ChangesVault, MakesIn}
-use Rattle.command_opening.specs.World.{World}
+use Rattle.open_for_reading.specs.World.{World}
 use Rattle.command_answers.specs.declared.answer.Answer.{Answer}
 use Rattle.command_answers.specs.declared.answer.Answer.TheVariants.{Done, OutOfMemory, FolderFault, InputFault, RandomFault, NotFound, WrongKind, Damaged, NotAllowed, ZeroRandom, Taken, Limit}
 use Rattle.command_words.specs.declared.commands.Change.{Change}

@@ -2,16 +2,16 @@
 ghost use Rattle.std.specs.Prelude.{◌≡◌, ℕ, Bool, List, Option, Some};
 ghost use Rattle.port_model.specs.Counts.{CountRose};
 ghost use Rattle.writing_commands.specs.Mkdir.{MakesDirectoryIn};
-ghost use Rattle.command_opening.specs.World.{World};
+ghost use Rattle.open_for_reading.specs.World.{World};
 ghost use Rattle.command_answers.specs.Rows.{Ends};
 ghost use Rattle.command_words.specs.declared.commands.Command.TheVariants.{Mkdir};
 
 use crate::faults::answer_to_making;
 use command_answers::Answer;
-use command_beginning::begin;
 use command_words::commands::Change;
 use folder_model::Folder;
 use folder_spec::laws::roots_show_their_own;
+use open_for_changing::begin;
 use port_model::Randoms;
 use port_model::laws::draws_compose;
 use std::alloc::Global;

@@ -3,7 +3,7 @@ ghost use Rattle.std.specs.Prelude.{◌≡◌};
 ghost use Rattle.writing_commands.specs.Faults.{answer_to_making};
 
 use command_answers::Answer;
-use command_beginning::answer_to_put;
+use open_for_changing::answer_to_put;
 use vault_write::PutFault;
 
 /// The answer to a call that makes something.

@@ -1,17 +1,17 @@
 //! `put`: stores the input as a file of a vault.
 ghost use Rattle.std.specs.Prelude.{◌≡◌, ℕ, List, Option, Some};
 ghost use Rattle.port_model.specs.Counts.{CountRose};
-ghost use Rattle.command_opening.specs.World.{World};
+ghost use Rattle.open_for_reading.specs.World.{World};
 ghost use Rattle.writing_commands.specs.Put.{StoresFile};
 ghost use Rattle.command_answers.specs.Rows.{Ends};
 ghost use Rattle.command_words.specs.declared.commands.Command.TheVariants.{Put};
 
 use crate::faults::answer_to_making;
 use command_answers::Answer;
-use command_beginning::begin;
 use command_words::commands::Change;
 use folder_model::Folder;
 use folder_spec::laws::roots_show_their_own;
+use open_for_changing::begin;
 use port_model::laws::draws_compose;
 use port_model::{Randoms, Source};
 use std::alloc::Global;

@@ -1,8 +1,8 @@
 use Rattle.std.proofs.Common.{Err, sym, ap, subst}
 use Rattle.folder_spec.specs.Seen.{IsSeen}
 use Rattle.checking_commands.specs.Fsck.{ShowsReport}
-use Rattle.command_opening.specs.Refusing.{Unless}
-use Rattle.command_opening.specs.Shown.{refused}
+use Rattle.open_for_reading.specs.Refusing.{Unless}
+use Rattle.open_for_reading.specs.Shown.{refused}
 use Rattle.checking_commands.proofs.Checks.{check_refused, report_told}
 use Rattle.checking_commands.proofs.checking.checked.Goals as goal
 

@@ -1,6 +1,6 @@
 use Rattle.std.proofs.Common.{refl, None, false}
 use Rattle.std.proofs.KnownBytes.{Keeps-refl}
-use Rattle.command_opening.specs.World.{World}
+use Rattle.open_for_reading.specs.World.{World}
 use Rattle.checking_commands.proofs.Checks.{checks}
 use Rattle.checking_commands.proofs.Rows.{fsck_row}
 use Rattle.checking_commands.proofs.checking.fsck.Goals as goal

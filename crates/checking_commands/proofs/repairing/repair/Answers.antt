@@ -2,7 +2,7 @@ use Rattle.std.proofs.Common.{refl, subst, sym, ◌∙◌, None, false}
 use Rattle.std.proofs.KnownBytes.{Keeps-refl}
 use Rattle.command_answers.specs.Printing.{PrintsText}
 use Rattle.checking_commands.specs.Repair.{moved_text}
-use Rattle.command_opening.specs.World.{World}
+use Rattle.open_for_reading.specs.World.{World}
 use Rattle.checking_commands.proofs.Repairs.{moved_or_cut, not_repaired, repair_printed, repair_refused, repaired_apart}
 use Rattle.checking_commands.proofs.Rows.{repair_row}
 use Rattle.checking_commands.proofs.repairing.repair.Goals as goal

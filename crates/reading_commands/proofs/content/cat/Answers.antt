@@ -7,13 +7,13 @@ use Rattle.vault_spec.specs.Format.{file_bytes}
 use Rattle.vault_spec.specs.Vault.{format_of}
 use Rattle.reading_commands.specs.Cat.{ShowsContent, ShowsFile, is_of_finding}
 use Rattle.reading_commands.specs.Finding.{answer_to_finding}
-use Rattle.command_opening.specs.Shown.{Reads, is_of_damage, is_of_opening, refused}
+use Rattle.open_for_reading.specs.Shown.{Reads, is_of_damage, is_of_opening, refused}
 use Rattle.command_answers.specs.declared.answer.Answer.TheVariants.{OutputFault}
 use Rattle.reading_commands.proofs.Contents.{content_is_one, cat_reads, cat_fails, quiet_fault, written_or_cut}
-use Rattle.command_opening.proofs.Counts.{rose_after}
-use Rattle.command_opening.proofs.Printings.{is_another}
-use Rattle.command_opening.proofs.Refusals.{unless_opened}
-use Rattle.command_opening.proofs.Showing.{reads_refused}
+use Rattle.open_for_reading.proofs.Counts.{rose_after}
+use Rattle.open_for_reading.proofs.Printings.{is_another}
+use Rattle.open_for_reading.proofs.Refusals.{unless_opened}
+use Rattle.open_for_reading.proofs.Showing.{reads_refused}
 use Rattle.reading_commands.proofs.Rows.{cat_row}
 use Rattle.reading_commands.proofs.content.cat.Goals as goal
 

@@ -1,5 +1,5 @@
 use Rattle.std.proofs.Common.{refl, sym, subst, None}
-use Rattle.command_opening.specs.World.{World}
+use Rattle.open_for_reading.specs.World.{World}
 use Rattle.reading_commands.specs.DecryptFile.{DecryptsFile}
 use Rattle.reading_commands.proofs.Decryptions.{decrypts}
 use Rattle.reading_commands.proofs.Rows.{decrypt_row}

@@ -6,9 +6,9 @@ use Rattle.port_model.specs.Told.{AppendsPrefix}
 use Rattle.reading_commands.specs.Ls.{ShowsItems}
 use Rattle.reading_commands.proofs.Listings.{items_are_one, listed_or_cut}
 use Rattle.command_answers.specs.declared.answer.Answer.TheVariants.{Done, OutputFault}
-use Rattle.command_opening.specs.Shown.{is_refusal}
-use Rattle.command_opening.proofs.Printings.{is_another}
-use Rattle.command_opening.proofs.Showing.{reads_by, reads_refused}
+use Rattle.open_for_reading.specs.Shown.{is_refusal}
+use Rattle.open_for_reading.proofs.Printings.{is_another}
+use Rattle.open_for_reading.proofs.Showing.{reads_by, reads_refused}
 use Rattle.reading_commands.proofs.Rows.{ls_row}
 use Rattle.reading_commands.proofs.listing.ls.Goals as goal
 

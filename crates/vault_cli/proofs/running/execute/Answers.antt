@@ -8,7 +8,7 @@ use Rattle.command_answers.specs.declared.answer.Answer.TheVariants.{BadCommandL
 use Rattle.command_words.specs.Commands.{command_of}
 use Rattle.command_words.specs.Written.{HasTexts, IsSmall}
 use Rattle.vault_cli.specs.Runs.{DoesNothing, Executes, OwnsFolders}
-use Rattle.command_opening.specs.World.{World}
+use Rattle.open_for_reading.specs.World.{World}
 use Rattle.vault_cli.proofs.running.execute.Goals as goal
 
 nothing : (w : World) → DoesNothing w w

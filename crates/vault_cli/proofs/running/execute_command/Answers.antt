@@ -1,6 +1,6 @@
 use Rattle.std.proofs.Common.{Some, refl, subst, sym}
 use Rattle.vault_cli.specs.Runs.{Executes, OwnsFolders}
-use Rattle.command_opening.specs.World.{World}
+use Rattle.open_for_reading.specs.World.{World}
 use Rattle.command_answers.specs.Rows.{Ends, EndsTold}
 use Rattle.command_answers.specs.declared.answer.Answer.TheVariants.{FolderFault, InputFault, OutputFault, RandomFault}
 use Rattle.command_words.specs.declared.commands.Command.{Command}

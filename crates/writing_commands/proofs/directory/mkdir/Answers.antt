@@ -1,8 +1,8 @@
 use Rattle.std.proofs.Common.{sym, ◌∙◌, None, false}
 use Rattle.std.proofs.KnownBytes.{Keeps-refl}
 use Rattle.vault_write.specs.Faults.{IsDirectoryFault}
-use Rattle.command_opening.specs.World.{World}
-use Rattle.command_opening.proofs.Counts.{rose_after}
+use Rattle.open_for_reading.specs.World.{World}
+use Rattle.open_for_reading.proofs.Counts.{rose_after}
 use Rattle.writing_commands.specs.Mkdir.{is_of_directory}
 use Rattle.writing_commands.proofs.MadeItems.{MakesIt, directory_made, vault_unchanged}
 use Rattle.writing_commands.proofs.Makings.{folder_failed}

@@ -1,5 +1,5 @@
 use Rattle.std.proofs.Common.{subst, None, false}
-use Rattle.command_opening.specs.World.{World}
+use Rattle.open_for_reading.specs.World.{World}
 use Rattle.writing_commands.specs.Init.{MakesVault}
 use Rattle.writing_commands.proofs.MadeVaults.{not_read}
 use Rattle.writing_commands.proofs.Rows.{init_row}

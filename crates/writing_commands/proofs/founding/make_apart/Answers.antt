@@ -1,5 +1,5 @@
 use Rattle.std.proofs.KnownBytes.{Keeps-refl}
-use Rattle.command_opening.specs.World.{World}
+use Rattle.open_for_reading.specs.World.{World}
 use Rattle.writing_commands.proofs.MadeVaults.{made_apart, not_entered, vault_made_beside}
 use Rattle.writing_commands.proofs.founding.make_apart.Goals as goal
 

@@ -1,8 +1,8 @@
 use Rattle.std.proofs.Common.{◌≡◌, subst, sym, ◌∙◌, None}
 use Rattle.std.proofs.KnownBytes.{Keeps-refl}
 use Rattle.port_model.specs.Counts.{CountRose}
-use Rattle.command_opening.proofs.Counts.{rose_after}
-use Rattle.command_opening.specs.World.{World}
+use Rattle.open_for_reading.proofs.Counts.{rose_after}
+use Rattle.open_for_reading.specs.World.{World}
 use Rattle.vault_write.specs.Faults.{IsFileFault}
 use Rattle.writing_commands.specs.Put.{StoresFile, is_of_file}
 use Rattle.writing_commands.proofs.MadeItems.{vault_unchanged}

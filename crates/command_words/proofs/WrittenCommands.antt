@@ -3,7 +3,7 @@ use Rattle.std.proofs.Common.{◌≡◌, ◌≤◌, ℕ, Bool, List, [], ◌∷�
 use Rattle.std.specs.Str.{bytes_eq}
 use Rattle.std.specs.Prelude.{if◌then◌else◌, true, false}
 use Rattle.folder_spec.specs.Path.{Path}
-use Rattle.move_journal.specs.Journal.{IsParsed}
+use Rattle.folder_model.specs.Text.{IsParsed}
 use Rattle.command_words.specs.Commands.{command_by, demonstration_by, moving_by}
 use Rattle.command_words.specs.Requests.{Request, request_in, request_of}
 use Rattle.command_words.specs.Rows.{Row, kinds_of, row_in, row_named, row_of, verbs}

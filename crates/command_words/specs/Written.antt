@@ -1,7 +1,7 @@
 -- What is known of values that words write, by their kinds: some text writes a folder path, so that a journal can tell the roots of a
 -- migration, and a number is within its bound.
 use Rattle.std.specs.Prelude.{◌≤◌, List, [], ◌∷◌, ⊤}
-use Rattle.move_journal.specs.Journal.{IsParsed}
+use Rattle.folder_model.specs.Text.{IsParsed}
 use Rattle.command_words.specs.declared.commands.Command.{Command}
 use Rattle.command_words.specs.declared.commands.Command.TheVariants as command
 use Rattle.command_words.specs.declared.commands.Moving.{Moving}

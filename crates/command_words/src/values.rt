@@ -1,7 +1,7 @@
 //! What words write.
 ghost use Rattle.std.specs.Prelude.{◌≡◌, IfOk, IfSome, drop};
 ghost use Rattle.std.specs.Vec.Iter.{into_iter_items};
-ghost use Rattle.move_journal.specs.Journal.{IsParsed};
+ghost use Rattle.folder_model.specs.Text.{IsParsed};
 ghost use Rattle.plain_tree.specs.Reading.{read_path};
 ghost use Rattle.command_words.specs.Commands.{first};
 ghost use Rattle.command_words.specs.Values.{flag_value, folder_path, folder_value, format_of, format_value, key_of, key_value, number_value, plain_value, value_by};

@@ -5,11 +5,11 @@ use Rattle.folder_model.proofs.Counting.{rose_since}
 use Rattle.folder_model.specs.Answers.{CountsAbove}
 use Rattle.folder_spec.specs.declared.FolderFault.{FolderFault}
 use Rattle.folder_spec.specs.declared.FolderFault.TheVariants as folder
-use Rattle.content_writing.specs.Faults.{of_folder}
+use Rattle.item_making.specs.Faults.{of_folder}
 use Rattle.content_writing.specs.Streaming.{FailsToStore}
 use Rattle.content_writing.specs.Writing.{Blames}
-use Rattle.content_writing.specs.declared.fault.PutFault.{PutFault}
-use Rattle.content_writing.specs.declared.fault.PutFault.TheVariants as puts
+use Rattle.item_making.specs.declared.fault.PutFault.{PutFault}
+use Rattle.item_making.specs.declared.fault.PutFault.TheVariants as puts
 
 -- ---- a call that ended by one fault
 

@@ -5,10 +5,11 @@ use Rattle.folder_spec.specs.Path.{Path}
 use Rattle.folder_spec.specs.Event.{Told}
 use Rattle.folder_spec.specs.View.{Found, NoEntry, View}
 use Rattle.folder_spec.specs.Seen.{seen}
-use Rattle.content_writing.specs.Content.{Coming, Ending, Whole, Damaged, TooLong, ends, bytes_before, Stands, still_coming, Gives, Gave, HasEnded, IsContentFault}
+use Rattle.item_making.specs.Ending.{Ending, Whole, Damaged, TooLong}
+use Rattle.content_writing.specs.Content.{Coming, ends, bytes_before, Stands, still_coming, Gives, Gave, HasEnded, IsContentFault}
 use Rattle.content_writing.specs.Streaming.{EndsGathering, Gathers}
-use Rattle.content_writing.specs.declared.fault.PutFault.{PutFault}
-use Rattle.content_writing.specs.declared.fault.PutFault.TheVariants as puts
+use Rattle.item_making.specs.declared.fault.PutFault.{PutFault}
+use Rattle.item_making.specs.declared.fault.PutFault.TheVariants as puts
 
 -- what holds at what stands, holds of what is still to come
 pub still_by : (reads : Option Path) (told : Option Told) (f g : Found → Option Coming) (R : Option Coming → Option Coming → Type 0) → R None None

@@ -9,13 +9,14 @@ use Rattle.folder_spec.specs.declared.FolderFault.TheVariants as folder
 use Rattle.folder_spec.specs.Path.{Path}
 use Rattle.folder_spec.specs.Event.{Told}
 use Rattle.folder_spec.specs.Written.{IsFrontOfOne}
-use Rattle.content_writing.specs.Content.{Coming, Ending, Whole, Damaged, TooLong, Gave, HasEnded}
-use Rattle.content_writing.specs.Faults.{of_folder}
+use Rattle.item_making.specs.Ending.{Ending, Whole, Damaged, TooLong}
+use Rattle.content_writing.specs.Content.{Coming, Gave, HasEnded}
+use Rattle.item_making.specs.Faults.{of_folder}
 use Rattle.content_writing.specs.Streaming.{EndsGathering, FailsToStore, IsMadeFor, Start, StagesFront, WereAccepted}
 use Rattle.content_writing.specs.Writing.{EndsBy, WritesContent}
 use Rattle.content_writing.proofs.Sixteens.{no_zeros}
-use Rattle.content_writing.specs.declared.fault.PutFault.{PutFault}
-use Rattle.content_writing.specs.declared.fault.PutFault.TheVariants as puts
+use Rattle.item_making.specs.declared.fault.PutFault.{PutFault}
+use Rattle.item_making.specs.declared.fault.PutFault.TheVariants as puts
 use Rattle.content_writing.proofs.Comings.{all_of, rest_of, all_is, ending_is, all_told, ended_on}
 
 pub front_of_file : (front file : List ℕ) → IsFrontOf front file → IsFrontOfOne (file ∷ []) front

@@ -6,7 +6,8 @@ use Rattle.std.proofs.Math.Dec.{leb-zero}
 use Rattle.std.proofs.Math.Seq.{take-append-add}
 use Rattle.std.specs.Io.KnownBytes.{Consumes, IsAtEnd}
 use Rattle.vault_faults.specs.declared.fault.Limit.TheVariants.{Input}
-use Rattle.content_writing.specs.Content.{Whole, TooLong, ends, bytes_before, within, coming_from, Gives}
+use Rattle.item_making.specs.Ending.{Whole, TooLong}
+use Rattle.content_writing.specs.Content.{ends, bytes_before, within, coming_from, Gives}
 
 le_behind : (k a b : ℕ) → nat_le (k + a) (k + b) ≡ nat_le a b
 le_behind k a b = elim (leb_tells (k + a) (k + b)) [

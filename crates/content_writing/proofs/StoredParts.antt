@@ -20,10 +20,10 @@ use Rattle.folder_spec.specs.Seen.{IfSeen, ShowsFile}
 use Rattle.folder_spec.proofs.Stages.{one_file}
 use Rattle.folder_spec.proofs.Written.{shorter_front}
 use Rattle.folder_staging.specs.Pieces.{IsWriting, Begins, Adds}
-use Rattle.content_writing.specs.Faults.{of_folder, of_encoding}
+use Rattle.item_making.specs.Faults.{of_folder, of_encoding}
 use Rattle.content_writing.specs.Streaming.{FailsToStore, IsMadeFor, StagesFront, IsNextChunk, FrontBy, MakesFront, BeginsContent, GoesOnWith, StoresChunk, WereAccepted}
-use Rattle.content_writing.specs.declared.fault.PutFault.{PutFault}
-use Rattle.content_writing.specs.declared.fault.PutFault.TheVariants as puts
+use Rattle.item_making.specs.declared.fault.PutFault.{PutFault}
+use Rattle.item_making.specs.declared.fault.PutFault.TheVariants as puts
 use Rattle.content_writing.proofs.Drawing.{has_bytes, none_accepted, nonce_sealed, some_full, zeros_drawn, header_enough, none_in_front, whole_made, front_made, next_made, next_goes_on}
 use Rattle.content_writing.proofs.Sixteens.{whole_drawn, zeros_behind}
 use Rattle.content_writing.proofs.Standing.{staged_stages, stages_none}

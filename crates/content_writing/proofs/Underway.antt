@@ -14,11 +14,12 @@ use Rattle.folder_spec.specs.View.{FileOf}
 use Rattle.folder_spec.specs.Seen.{IfSeen, ShowsFile}
 use Rattle.folder_spec.proofs.Stages.{one_file}
 use Rattle.folder_staging.specs.Pieces.{IsWriting, Finishes}
-use Rattle.content_writing.specs.Content.{Coming, Whole, Gave, HasEnded}
-use Rattle.content_writing.specs.Faults.{of_folder}
+use Rattle.item_making.specs.Ending.{Whole}
+use Rattle.content_writing.specs.Content.{Coming, Gave, HasEnded}
+use Rattle.item_making.specs.Faults.{of_folder}
 use Rattle.content_writing.specs.Streaming.{Gathers, FailsToStore, IsMadeFor, StagesFront, IsStaged, BeginsContent, IsNextChunk, StoresChunk, Start, IsUnderway}
 use Rattle.content_writing.specs.Writing.{WritesContent}
-use Rattle.content_writing.specs.declared.fault.PutFault.{PutFault}
+use Rattle.item_making.specs.declared.fault.PutFault.{PutFault}
 use Rattle.content_writing.proofs.Comings.{gave_none, gave_more, ended_on, all_of, rest_of, rest_none, all_is, ending_is}
 use Rattle.content_writing.proofs.Drawing.{none_accepted, encrypted_accepted, none_in_front}
 use Rattle.content_writing.proofs.Standing.{stages_none, staged_stages}

@@ -10,14 +10,9 @@ use Rattle.folder_spec.specs.View.{Found, NoEntry, View}
 use Rattle.folder_spec.specs.Seen.{IfSeen, IsSeen, seen}
 use Rattle.vault_faults.specs.declared.fault.Limit.{Limit}
 use Rattle.vault_faults.specs.declared.fault.Limit.TheVariants.{Input}
-use Rattle.content_writing.specs.declared.fault.PutFault.{PutFault}
-use Rattle.content_writing.specs.declared.fault.PutFault.TheVariants as puts
-
--- a content ends, or at a fault of its file, or where it passes a limit
-pub data Ending : Type 0 where
-  Whole : Ending
-  Damaged : Path → ChunkFault → Ending
-  TooLong : Limit → Ending
+use Rattle.item_making.specs.Ending.{Ending, Whole, Damaged, TooLong}
+use Rattle.item_making.specs.declared.fault.PutFault.{PutFault}
+use Rattle.item_making.specs.declared.fault.PutFault.TheVariants as puts
 
 -- the bytes that are still to come, and how they end
 pub record Coming : Type 0 where

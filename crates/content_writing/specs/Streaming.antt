@@ -10,11 +10,12 @@ use Rattle.folder_spec.specs.Path.{Path}
 use Rattle.folder_spec.specs.Event.{Told}
 use Rattle.folder_spec.specs.Written.{IsFrontOfOne}
 use Rattle.folder_staging.specs.Pieces.{IsWriting, Stages}
-use Rattle.content_writing.specs.Content.{Coming, Whole, Damaged, TooLong, Gave, HasEnded}
-use Rattle.content_writing.specs.Faults.{of_encoding}
+use Rattle.item_making.specs.Ending.{Whole, Damaged, TooLong}
+use Rattle.content_writing.specs.Content.{Coming, Gave, HasEnded}
+use Rattle.item_making.specs.Faults.{of_encoding}
 use Rattle.content_writing.specs.Writing.{DrewZeros}
-use Rattle.content_writing.specs.declared.fault.PutFault.{PutFault}
-use Rattle.content_writing.specs.declared.fault.PutFault.TheVariants as puts
+use Rattle.item_making.specs.declared.fault.PutFault.{PutFault}
+use Rattle.item_making.specs.declared.fault.PutFault.TheVariants as puts
 
 -- ---- gathering a chunk
 

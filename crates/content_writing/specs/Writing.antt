@@ -9,9 +9,10 @@ use Rattle.folder_spec.specs.State.{present}
 use Rattle.folder_spec.specs.Event.{Told, FromTo}
 use Rattle.folder_spec.specs.Replace.{IsNewFile}
 use Rattle.folder_staging.specs.Pieces.{Stages}
-use Rattle.content_writing.specs.Content.{Coming, Ending, Whole, Damaged, TooLong, Gave, HasEnded}
-use Rattle.content_writing.specs.declared.fault.PutFault.{PutFault}
-use Rattle.content_writing.specs.declared.fault.PutFault.TheVariants as puts
+use Rattle.item_making.specs.Ending.{Ending, Whole, Damaged, TooLong}
+use Rattle.content_writing.specs.Content.{Coming, Gave, HasEnded}
+use Rattle.item_making.specs.declared.fault.PutFault.{PutFault}
+use Rattle.item_making.specs.declared.fault.PutFault.TheVariants as puts
 
 -- A count of faults never falls, and a call answers this fault only where the count rose.
 abbrev pub Blames : {T : Type 0} → Result T PutFault → PutFault → ℕ → ℕ → Type 0

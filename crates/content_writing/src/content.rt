@@ -7,9 +7,9 @@ ghost use Rattle.folder_spec.specs.View.{Found};
 ghost use Rattle.content_writing.specs.Content.{Coming, Stands, IsReady, Gives, IsContentFault};
 ghost use Rattle.vault_faults.specs.Limits.{content_limit};
 
-use crate::fault::PutFault;
 use chunk_files::ChunkBuf;
 use folder_model::Folder;
+use item_making::PutFault;
 
 /// The content of a new file, given piece by piece.
 ///

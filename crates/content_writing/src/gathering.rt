@@ -5,10 +5,10 @@ ghost use Rattle.content_writing.specs.Streaming.{Gathers};
 ghost use Rattle.content_writing.specs.Writing.{Blames};
 
 use crate::content::Content;
-use crate::fault::PutFault;
 use crate::gathered::Gathered;
 use chunk_files::ChunkBuf;
 use folder_model::Folder;
+use item_making::PutFault;
 
 // Gathers the next chunk of a content: fewer bytes than a full one has only at the end.
 pub(crate) fn gather<F: Folder, C: Content<F>>(

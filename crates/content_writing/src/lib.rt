@@ -2,7 +2,6 @@
 #![tactic(auto)]
 
 pub mod content;
-pub mod fault;
 mod gathered;
 mod gathering;
 pub mod laws;
@@ -12,6 +11,6 @@ mod storing;
 pub mod writing;
 
 pub use content::Content;
-pub use fault::PutFault;
+pub use item_making::PutFault;
 pub use source_content::SourceContent;
 pub use writing::{Buffers, write_content};

@@ -5,7 +5,7 @@ ghost use Rattle.port_model.specs.Counts.{CountRose};
 ghost use Rattle.content_writing.specs.Content.{coming_from, Gives};
 ghost use Rattle.vault_faults.specs.Limits.{content_limit};
 
-use crate::fault::PutFault;
+use item_making::PutFault;
 use port_model::Source;
 use vault_faults::Limit;
 

@@ -4,10 +4,10 @@ ghost use Rattle.content_writing.specs.Content.{coming_from};
 ghost use Rattle.vault_faults.specs.Limits.{content_limit};
 
 use crate::content::Content;
-use crate::fault::PutFault;
 use crate::room::Room;
 use chunk_files::ChunkBuf;
 use folder_model::Folder;
+use item_making::PutFault;
 use port_model::Source;
 
 /// What a source has left, as the content of a file. Past 2^40 bytes it passes the limit of an input.

@@ -7,13 +7,13 @@ ghost use Rattle.folder_staging.specs.Places.{IsStage};
 ghost use Rattle.content_writing.specs.Streaming.{BeginsContent, MakesFront, StoresChunk};
 ghost use Rattle.content_writing.specs.Writing.{Blames};
 
-use crate::fault::PutFault;
 use crate::gathered::Gathered;
 use chunk_files::laws::made_is_a_front;
 use chunk_files::{ChunkBuf, ContentKeys, EncodeFault, Encoder};
 use folder_model::{FPath, Folder};
 use folder_staging::laws::written_files_are_seen;
 use folder_staging::{add_piece, begin_file};
+use item_making::PutFault;
 use port_model::Randoms;
 use port_model::laws::draws_compose;
 

@@ -5,7 +5,6 @@ ghost use Rattle.content_writing.specs.Content.{IsReady, still_coming};
 ghost use Rattle.content_writing.specs.Writing.{Blames, ReadsApart, WritesContent};
 
 use crate::content::Content;
-use crate::fault::PutFault;
 use crate::gathered::Gathered;
 use crate::gathering::gather;
 use crate::storing::{begin_content, store_chunk};
@@ -13,6 +12,7 @@ use chunk_files::{ChunkBuf, ContentKeys, Encoder};
 use folder_model::{FPath, Folder};
 use folder_staging::finish_file;
 use folder_staging::laws::written_files_are_seen;
+use item_making::PutFault;
 use port_model::Randoms;
 use port_model::laws::draws_compose;
 use std::alloc::{AllocError, Global};

@@ -10,7 +10,7 @@ use Rattle.base64.specs.Tables.{all_below}
 use Rattle.base64.proofs.Tables.{all_below_at}
 use Rattle.uuid.specs.Text.{by_index, hex_digit, lower, is_hyphen_place, nibble, digit_place}
 use Rattle.uuid.proofs.TextLemmas.{nibble_small, hyphenated_ascii}
-use Rattle.vault_keys.specs.Id.{id_of}
+use Rattle.vault_values.specs.Id.{id_of}
 
 is_plain : ℕ → Bool
 is_plain d = bytes_eq (escape_byte (hex_digit lower d)) (hex_digit lower d ∷ [])

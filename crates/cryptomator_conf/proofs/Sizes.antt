@@ -10,7 +10,7 @@ use Rattle.cryptomator_conf.specs.declared.conf.CmDraw.{CmDraw}
 use Rattle.cryptomator_conf.specs.declared.conf.Combo.{Combo}
 use Rattle.cryptomator_conf.specs.declared.conf.Combo.TheVariants.{SivGcm, SivCtrMac}
 use Rattle.cryptomator_conf.specs.declared.conf.MasterFile.{MasterFile}
-use Rattle.vault_keys.specs.Id.{id_of}
+use Rattle.vault_values.specs.Id.{id_of}
 use Rattle.cryptomator_conf.specs.Signature.{signature_of}
 use Rattle.cryptomator_conf.specs.Text.{keys_of, header_text, master_text, payload_text, signed_text, vault_text}
 

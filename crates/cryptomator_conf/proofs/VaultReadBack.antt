@@ -25,7 +25,7 @@ use Rattle.cryptomator_conf.specs.declared.conf.Combo.{Combo}
 use Rattle.cryptomator_conf.specs.declared.conf.Combo.TheVariants.{SivGcm, SivCtrMac}
 use Rattle.cryptomator_conf.specs.declared.fault.CmConfFault.TheVariants.{NotJwt}
 use Rattle.cryptomator_conf.specs.Combo.{combo_name}
-use Rattle.vault_keys.specs.Id.{id_of}
+use Rattle.vault_values.specs.Id.{id_of}
 use Rattle.cryptomator_conf.specs.Jwt.{Parts, jwt_in, jwt_of, object_in}
 use Rattle.cryptomator_conf.specs.Laws.{made_vault}
 use Rattle.kdf_suite.specs.Hmac.{hmac_sha256}

@@ -7,7 +7,7 @@ use Rattle.kdf_suite.specs.Scrypt.{scrypt_key}
 use Rattle.kdf_suite.specs.ScryptCost.{Cost}
 use Rattle.key_wrap.specs.Wrap.{IsKey, Unwraps}
 use Rattle.cryptomator_conf.specs.declared.conf.MasterFile.{MasterFile}
-use Rattle.vault_keys.specs.declared.keys.CmKeys.{CmKeys}
+use Rattle.vault_values.specs.declared.keys.CmKeys.{CmKeys}
 
 -- a passphrase as it is used: in Unicode's normalization form C where it is UTF-8, and else as its bytes
 unfoldable pub passphrase : List ℕ → List ℕ

@@ -9,8 +9,8 @@ use Rattle.cryptomator_conf.specs.declared.conf.Combo.{Combo}
 use Rattle.cryptomator_conf.specs.declared.conf.MasterFile.{MasterFile}
 use Rattle.cryptomator_conf.specs.declared.conf.VaultFile.{VaultFile}
 use Rattle.cryptomator_conf.specs.declared.fault.CmConfFault.{CmConfFault}
-use Rattle.vault_keys.specs.declared.keys.CmKeys.{CmKeys}
-use Rattle.vault_keys.specs.Id.{id_of}
+use Rattle.vault_values.specs.declared.keys.CmKeys.{CmKeys}
+use Rattle.vault_values.specs.Id.{id_of}
 use Rattle.cryptomator_conf.specs.Keys.{AreKeys, Unlocks}
 use Rattle.cryptomator_conf.specs.Master.{ReadsMaster}
 use Rattle.cryptomator_conf.specs.Signature.{signature_of}

@@ -3,7 +3,7 @@ use Rattle.std.specs.Prelude.{ℕ, List, ◌++◌}
 use Rattle.kdf_suite.specs.Hmac.{hmac_sha256, hmac_sha384, hmac_sha512}
 use Rattle.cryptomator_conf.specs.declared.conf.Alg.{Alg}
 use Rattle.cryptomator_conf.specs.declared.conf.Alg.TheVariants.{Hs256, Hs384, Hs512}
-use Rattle.vault_keys.specs.declared.keys.CmKeys.{CmKeys}
+use Rattle.vault_values.specs.declared.keys.CmKeys.{CmKeys}
 
 -- the HMAC of a text by the named hash
 abbrev pub hmac_by : Alg → List ℕ → List ℕ → List ℕ

@@ -10,9 +10,9 @@ use Rattle.cryptomator_conf.specs.declared.conf.Alg.TheVariants.{Hs256}
 use Rattle.cryptomator_conf.specs.declared.conf.CmDraw.{CmDraw}
 use Rattle.cryptomator_conf.specs.declared.conf.Combo.{Combo}
 use Rattle.cryptomator_conf.specs.declared.conf.MasterFile.{MasterFile}
-use Rattle.vault_keys.specs.declared.keys.CmKeys.{CmKeys}
+use Rattle.vault_values.specs.declared.keys.CmKeys.{CmKeys}
 use Rattle.cryptomator_conf.specs.Combo.{combo_name}
-use Rattle.vault_keys.specs.Id.{id_of}
+use Rattle.vault_values.specs.Id.{id_of}
 use Rattle.cryptomator_conf.specs.Keys.{wrapping_key}
 use Rattle.cryptomator_conf.specs.Signature.{signature_of}
 

@@ -4,7 +4,7 @@ ghost use Rattle.std.specs.Prelude.{◌≡◌};
 ghost use Rattle.cryptomator_conf.specs.Combo.{combo_name};
 
 use kdf_suite::ScryptCost;
-use text_model::Bytes;
+use vault_values::Bytes;
 
 /// What `masterkey.cryptomator` says.
 #[derive(PartialEq, Eq, Drop)]

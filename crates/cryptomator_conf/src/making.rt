@@ -12,8 +12,7 @@ use base64::engine::general_purpose::{STANDARD, URL_SAFE_NO_PAD};
 use kdf_suite::{ScryptCost, hmac256};
 use key_wrap::wrap_key;
 use std::alloc::{AllocError, Global};
-use text_model::Bytes;
-use vault_keys::{CmKeys, id_text};
+use vault_values::{Bytes, CmKeys, id_text};
 
 const HEADER: &str =
     "{\"alg\":\"HS256\",\"kid\":\"masterkeyfile:masterkey.cryptomator\",\"typ\":\"JWT\"}";

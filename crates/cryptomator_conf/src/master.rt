@@ -12,7 +12,7 @@ use json_fields::{Alphabet, bytes_at, json_object, number_at};
 use kdf_suite::ScryptCost;
 use serde_json::Value;
 use std::alloc::Global;
-use text_model::{Bytes, Text};
+use vault_values::{Bytes, Text};
 
 // The fields of the file.
 #[derive(Drop)]

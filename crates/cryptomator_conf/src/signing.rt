@@ -7,7 +7,7 @@ use crate::conf::{Alg, VaultFile};
 use crate::fault::BadSignature;
 use aes_lanes::same_bytes;
 use kdf_suite::{hmac256, hmac384, hmac512};
-use vault_keys::CmKeys;
+use vault_values::CmKeys;
 
 /// Whether the signature of `vault.cryptomator` is the keys'. It takes no memory.
 pub fn check_signature(file: &VaultFile, keys: &CmKeys) -> Result<(), BadSignature>

@@ -1,7 +1,7 @@
 //! The keys that `masterkey.cryptomator` and a passphrase give.
 
 ghost use Rattle.std.specs.Prelude.{◌≡◌, IfOk, Err};
-ghost use Rattle.vault_keys.specs.declared.keys.CmKeys.{CmKeys};
+ghost use Rattle.vault_values.specs.declared.keys.CmKeys.{CmKeys};
 ghost use Rattle.cryptomator_conf.specs.declared.fault.UnlockFault.TheVariants.{WrongPass};
 ghost use Rattle.cryptomator_conf.specs.Keys.{AreKeys, Unlocks};
 
@@ -11,7 +11,7 @@ use crate::keys::wrapping_key;
 use aes_lanes::Key256;
 use key_wrap::unwrap_key;
 use std::alloc::Global;
-use vault_keys::CmKeys;
+use vault_values::CmKeys;
 
 /// The keys of a vault, from its `masterkey.cryptomator` and passphrase. A passphrase that is UTF-8 is used in NFC, one
 /// that isn't as its bytes.

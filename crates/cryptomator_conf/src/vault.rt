@@ -11,7 +11,7 @@ use crate::fault::CmConfFault;
 use crate::jwt::{Jwt, jwt_in};
 use json_fields::{number_at, text_at};
 use std::alloc::Global;
-use text_model::{Bytes, Text};
+use vault_values::{Bytes, Text};
 
 const KID: &str = "masterkeyfile:masterkey.cryptomator";
 

@@ -1,8 +1,8 @@
 -- Calls that leave a region as it was, one after the other.
 use Rattle.std.proofs.Common.{◌≡◌, ◌≢◌, ℕ, Bool, List, Option, Result, Some, None, IsTrue, ◌∙◌, ◌&&◌, true, false, not, is_none, ap, subst, sym, refl}
-use Rattle.content_writing.specs.declared.fault.PutFault.{PutFault}
+use Rattle.item_making.specs.declared.fault.PutFault.{PutFault}
 use Rattle.vault_write.specs.Founding.{Founds, MayFound, IsFounding, founding, texts, vault_edit}
-use Rattle.content_writing.specs.Making.{StagesOrPlaces, is_apart, is_inside, is_unstaged}
+use Rattle.item_making.specs.Making.{StagesOrPlaces, is_apart, is_inside, is_unstaged}
 use Rattle.folder_spec.specs.Event.{Event, FromTo, Told}
 use Rattle.folder_spec.specs.Moments.{Moments, Went}
 use Rattle.folder_spec.specs.Path.{Part, Path, below}

@@ -3,8 +3,8 @@ use Rattle.std.specs.Bool.{Decides}
 use Rattle.std.specs.Cmp.Lexicographic.{bytes_decides}
 use Rattle.std.specs.Str.{bytes_eq}
 use Rattle.std.proofs.Common.{◌≡◌, ◌≢◌, ◌∙◌, ◌≤◌, ◌<◌, ℕ, Bool, true, false, not, ◌||◌, List, [], ◌∷◌, ◌++◌, length, codes, is_none, Option, Some, None, Result, Ok, Err, IsTrue, IfErr, inl, inr, refl, sym, ap, subst, arith}
-use Rattle.content_writing.specs.declared.fault.PutFault.{PutFault}
-use Rattle.content_writing.specs.declared.fault.PutFault.TheVariants as put
+use Rattle.item_making.specs.declared.fault.PutFault.{PutFault}
+use Rattle.item_making.specs.declared.fault.PutFault.TheVariants as put
 use Rattle.cryptomator_conf.specs.declared.conf.CmDraw.{CmDraw}
 use Rattle.folder_spec.specs.Event.{Told}
 use Rattle.folder_spec.specs.Path.{Path, below, child, parent}
@@ -20,7 +20,7 @@ use Rattle.vault_read.specs.declared.fault.LoadFault.{LoadFault}
 use Rattle.vault_read.specs.declared.fault.LoadFault.TheVariants as load
 use Rattle.vault_spec.specs.Vault.{Answer, IsVault, Loads, Vault}
 use Rattle.vault_write.specs.Founding.{CmDrew, GoDrew}
-use Rattle.content_writing.specs.Making.{is_apart, is_inside, is_unstaged}
+use Rattle.item_making.specs.Making.{is_apart, is_inside, is_unstaged}
 use Rattle.work_folder.specs.Entering.{Empties, EntersAs, IsFresh, IsReady}
 use Rattle.work_folder.specs.Entries.{IsForeign, is_foreign, stage_path}
 use Rattle.work_folder.specs.Looking as looking

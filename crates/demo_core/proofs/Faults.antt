@@ -1,7 +1,7 @@
 -- What a fault of a first call says of the call around it.
 use Rattle.std.proofs.Common.{◌≡◌, ◌≢◌, ◌∙◌, ◌⊎◌, ℕ, inl, inr, refl, sym, subst}
-use Rattle.content_writing.specs.declared.fault.PutFault.{PutFault}
-use Rattle.content_writing.specs.declared.fault.PutFault.TheVariants as put
+use Rattle.item_making.specs.declared.fault.PutFault.{PutFault}
+use Rattle.item_making.specs.declared.fault.PutFault.TheVariants as put
 use Rattle.folder_spec.specs.Path.{Path}
 use Rattle.port_model.specs.Counts.{CountRose}
 use Rattle.work_folder.specs.declared.fault.WorkFault.{WorkFault}

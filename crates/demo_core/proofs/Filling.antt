@@ -11,9 +11,9 @@ use Rattle.vault_spec.specs.Adding.{OpensWith}
 use Rattle.vault_spec.specs.Alike.{IsOrderly}
 use Rattle.vault_spec.specs.Findings.{IsClean}
 use Rattle.work_folder.specs.Entering.{IsReady}
-use Rattle.content_writing.specs.Content.{Ending, Whole}
-use Rattle.content_writing.specs.declared.fault.PutFault.{PutFault}
-use Rattle.content_writing.specs.declared.fault.PutFault.TheVariants as put
+use Rattle.item_making.specs.Ending.{Ending, Whole}
+use Rattle.item_making.specs.declared.fault.PutFault.{PutFault}
+use Rattle.item_making.specs.declared.fault.PutFault.TheVariants as put
 use Rattle.folder_spec.specs.State.{State}
 use Rattle.vault_write.specs.Faults.{IsDirectoryFault, IsFileFault}
 use Rattle.vault_read.specs.Contents.{IsOfPath}
@@ -32,11 +32,11 @@ use Rattle.vault_spec.specs.Opens.{tree}
 use Rattle.vault_spec.specs.Tidy.{IsTidy, OwnPlacesAreFree}
 use Rattle.vault_spec.specs.Vault.{Cryptomator, Gocryptfs, IsVault, Vault, format_of}
 use Rattle.vault_write.specs.Calls.{MakesAt, MakesOne, New, making_by}
-use Rattle.content_writing.specs.Making.{Placing, StagesOrPlaces, is_apart}
-use Rattle.content_writing.specs.Placing.{EndsAs, HasVault, IsMaking, ShowsNewTree, making_at}
+use Rattle.item_making.specs.Making.{Placing, StagesOrPlaces, is_apart}
+use Rattle.item_making.specs.Placing.{EndsAs, HasVault, IsMaking, ShowsNewTree, making_at}
 use Rattle.vault_write.specs.Refusing.{Answers, HasTaken}
-use Rattle.content_writing.specs.Trees.{GainsItem, StaysGood}
-use Rattle.content_writing.specs.Trees as trees
+use Rattle.item_making.specs.Trees.{GainsItem, StaysGood}
+use Rattle.item_making.specs.Trees as trees
 use Rattle.demo_core.specs.Drawing.{HasZeroRun}
 use Rattle.demo_core.specs.Demonstration.{bytes_from, content_of, is_directory, path_of, size_of}
 use Rattle.demo_core.specs.Making.{HoldsAlone, IsBeside, IsItemFault, IsOfItem, IsPutOfChance, IsPutTaken, phrase}

@@ -3,7 +3,8 @@ use Rattle.std.proofs.Common.{◌≡◌, ◌∙◌, ◌+◌, ◌-◌, ◌≤◌,
 use Rattle.std.specs.List.{range_with_len}
 use Rattle.std.proofs.lemmas.List.FromFn.{length-map-range_with_len}
 use Rattle.std.proofs.Math.Seq.{take-append_seam}
-use Rattle.content_writing.specs.Content.{Coming, Steps, Whole, ends}
+use Rattle.item_making.specs.Ending.{Whole}
+use Rattle.content_writing.specs.Content.{Coming, Steps, ends}
 use Rattle.demo_core.specs.Contents.{coming_of}
 use Rattle.demo_core.specs.Demonstration.{byte_of, bytes_from}
 

@@ -15,7 +15,7 @@ use Rattle.folder_spec.proofs.Seen.{none_seen}
 use Rattle.folder_spec.proofs.Tables.{present_is_table}
 use Rattle.folder_spec.proofs.Tellings.{from_to_more, from_to_then}
 use Rattle.plain_tree.specs.Names as plain
-use Rattle.content_writing.specs.declared.fault.PutFault.{PutFault}
+use Rattle.item_making.specs.declared.fault.PutFault.{PutFault}
 use Rattle.vault_read.specs.Laws.{HaveOneAnswer}
 use Rattle.vault_spec.specs.Opened.{OpenedVault}
 use Rattle.vault_read.specs.Opened.{kind_of}
@@ -27,9 +27,9 @@ use Rattle.vault_spec.specs.Opens.{NoItem, tree}
 use Rattle.vault_spec.specs.Tidy.{IsTidy}
 use Rattle.vault_spec.specs.Vault.{Answer, IsVault, Vault, format_of}
 use Rattle.vault_write.specs.Founding.{IsNewVault, vault_edit}
-use Rattle.content_writing.specs.Making.{is_inside, is_staged, is_unstaged}
+use Rattle.item_making.specs.Making.{is_inside, is_staged, is_unstaged}
 use Rattle.work_folder.specs.Entries.{stage_path}
-use Rattle.content_writing.specs.Trees.{ShowsVault}
+use Rattle.item_making.specs.Trees.{ShowsVault}
 use Rattle.demo_core.specs.Making.{HoldsAlone, HoldsInOrder, HoldsItems, StandsNew, phrase}
 use Rattle.demo_core.specs.Tree.{HasItems}
 use Rattle.demo_core.proofs.Entered.{empty_orderly}

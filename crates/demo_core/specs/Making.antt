@@ -7,8 +7,8 @@ use Rattle.folder_spec.specs.Region.{IsAsBefore, apart_from_both, at_or_below}
 use Rattle.folder_spec.specs.Seen.{ShowsFree, under}
 use Rattle.folder_spec.specs.State.{State}
 use Rattle.folder_spec.specs.View.{Folder, NoEntry, View, ShowsAmong}
-use Rattle.content_writing.specs.declared.fault.PutFault.{PutFault}
-use Rattle.content_writing.specs.declared.fault.PutFault.TheVariants as put
+use Rattle.item_making.specs.declared.fault.PutFault.{PutFault}
+use Rattle.item_making.specs.declared.fault.PutFault.TheVariants as put
 use Rattle.vault_read.specs.declared.fault.LoadFault.TheVariants as load
 use Rattle.vault_read.specs.declared.vault.VaultKind.{VaultKind}
 use Rattle.vault_read.specs.Contents.{IsOfPath}
@@ -19,7 +19,7 @@ use Rattle.vault_spec.specs.Opens.{tree}
 use Rattle.vault_spec.specs.Tidy.{IsTidy}
 use Rattle.vault_spec.specs.Vault.{Vault, IsVault, format_of}
 use Rattle.vault_write.specs.Founding.{IsNewVault}
-use Rattle.content_writing.specs.Trees.{ShowsVault}
+use Rattle.item_making.specs.Trees.{ShowsVault}
 use Rattle.work_folder.specs.Entering.{IsFresh}
 use Rattle.work_folder.specs.declared.fault.WorkFault.TheVariants as work
 use Rattle.demo_core.specs.Tree.{HasItems}

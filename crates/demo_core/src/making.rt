@@ -1,18 +1,17 @@
 //! Making the vaults of the demonstration, and the items of the first.
 ghost use Rattle.std.specs.Prelude.{◌≡◌, ◌≢◌, ◌≤◌, ◌<◌, ◌+◌, ◌⊎◌, ◌++◌, ◌∷◌, [], ℕ, None, Some, Ok, Err, IfErr, IfOk, OnOk, IsTrue, codes, replicate};
 ghost use Rattle.std.specs.Int.{to_le_bytes, w64};
-ghost use Rattle.folder_model.specs.Text.{is_path_text, parts_of};
+ghost use Rattle.folder_model.specs.Text.{IsParsed, is_path_text, parts_of};
 ghost use Rattle.folder_spec.specs.Event.{FromTo, Told};
 ghost use Rattle.folder_spec.specs.Path.{below};
 ghost use Rattle.folder_spec.specs.Seen.{IfSeen, ShowsFree};
 ghost use Rattle.folder_spec.specs.View.{kind_found};
-ghost use Rattle.move_journal.specs.Journal.{IsParsed};
 ghost use Rattle.port_model.specs.Counts.{CountRose};
 ghost use Rattle.work_folder.specs.Entering.{IsFresh, IsReady};
 ghost use Rattle.vault_read.specs.Opened.{kind_of};
 ghost use Rattle.vault_write.specs.Founding.{MayFound};
-ghost use Rattle.content_writing.specs.Making.{is_apart};
-ghost use Rattle.content_writing.specs.Placing.{MayMake};
+ghost use Rattle.item_making.specs.Making.{is_apart};
+ghost use Rattle.item_making.specs.Placing.{MayMake};
 ghost use Rattle.demo_core.specs.Drawing.{Drew, seed_stream};
 ghost use Rattle.demo_core.specs.Making.{CanMake, HoldsAlone, HoldsInOrder, HoldsItems, IsBeside, IsFailed, IsItemFault, IsMakeFault, IsNotPut, IsOfChance, IsOfItem, IsOfItems, IsPutOfChance, IsPutTaken, IsTaken, MakesBeside, StandsNew, making_folder, phrase};
 ghost use Rattle.demo_core.specs.Sharing.{SharesPlace};

@@ -1,6 +1,6 @@
 -- What the demonstration draws: part after part, and sixteen zeros in a row where a migration stops because of zeros.
 use Rattle.std.proofs.Common.{◌≡◌, ◌∷◌, [], ℕ, List, Option, Result, Ok, Err, inl, inr, refl, ◌∙◌}
-use Rattle.content_writing.specs.declared.fault.PutFault.TheVariants as put
+use Rattle.item_making.specs.declared.fault.PutFault.TheVariants as put
 use Rattle.plain_tree.specs.declared.name_map.NameMap.TheVariants.{Same}
 use Rattle.demo_core.specs.Drawing.{Drew, HasZeroRun}
 use Rattle.demo_core.proofs.Drawn.{Compose, drew_for, drew_nothing, drew_then, run_before, run_behind, run_refused}

@@ -14,7 +14,7 @@ use Rattle.folder_spec.specs.State.{IsSound, State}
 use Rattle.folder_spec.specs.View.{AgreeIn, View}
 use Rattle.folder_spec.proofs.Moments.{went_to}
 use Rattle.folder_spec.proofs.Regions.{seen_as_before}
-use Rattle.mapped_trees.specs.Trees.{IsMapped}
+use Rattle.vault_spec.specs.Mapped.{IsMapped}
 use Rattle.migrate_core.specs.Moved.{MovesTree}
 use Rattle.migrate_core.specs.declared.placing.Done.{Done}
 use Rattle.plain_tree.specs.Names as plain

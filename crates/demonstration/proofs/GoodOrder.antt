@@ -19,7 +19,7 @@ use Rattle.vault_spec.specs.Findings.{IsClean}
 use Rattle.vault_spec.specs.Opens.{NoItem, opened, tree}
 use Rattle.vault_spec.specs.Tidy.{IsTidy}
 use Rattle.vault_spec.specs.Vault.{Cryptomator, Gocryptfs, IsVault, Vault, format_of}
-use Rattle.content_writing.specs.Trees.{ShowsVault}
+use Rattle.item_making.specs.Trees.{ShowsVault}
 use Rattle.demonstration.specs.DemoSteps.{HoldsWell}
 
 -- ---- no two directories share a folder

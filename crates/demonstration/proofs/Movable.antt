@@ -24,8 +24,8 @@ use Rattle.plain_tree.specs.Names as plain
 use Rattle.plain_tree.specs.declared.name_map.NameMap.TheVariants.{Same}
 use Rattle.retire_core.specs.Completing.{CanRetire, KeepsLimits}
 use Rattle.tree_match.specs.Comparing.{content_at}
-use Rattle.mapped_trees.specs.Plans.{IsPlanOf}
-use Rattle.mapped_trees.specs.Trees.{AllowsMapped, AllowsTree, IsWhole, StaysApart}
+use Rattle.vault_spec.specs.PlanOf.{IsPlanOf}
+use Rattle.vault_spec.specs.Mapped.{AllowsMapped, AllowsTree, IsWhole, StaysApart}
 use Rattle.tree_match.specs.Trees.{IsWalkOf, Side}
 use Rattle.vault_spec.specs.Opened.{OpenedVault}
 use Rattle.vault_spec.specs.Alike.{IsOrderly}
@@ -37,8 +37,8 @@ use Rattle.vault_spec.specs.Plan.{Planned}
 use Rattle.vault_spec.specs.Standing.{File, standing}
 use Rattle.vault_spec.specs.Vault.{IsVault, Vault, format_of}
 use Rattle.vault_walk.specs.Surveyed as walks
-use Rattle.content_writing.specs.Making.{is_inside}
-use Rattle.content_writing.specs.Trees.{ShowsVault}
+use Rattle.item_making.specs.Making.{is_inside}
+use Rattle.item_making.specs.Trees.{ShowsVault}
 use Rattle.work_folder.specs.Entries.{is_foreign, journal_path, stage_path}
 use Rattle.demonstration.specs.DemoSteps.{CanCarry, HasCarried, Sees}
 use Rattle.demonstration.specs.DemoTrees.{moving_folder, source_of, target_of}

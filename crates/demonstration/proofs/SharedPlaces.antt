@@ -16,7 +16,7 @@ use Rattle.plain_tree.specs.declared.NodeKind.{NodeKind}
 use Rattle.plain_tree.specs.declared.NodeKind.TheVariants as node
 use Rattle.plain_tree.specs.declared.name_map.NameMap.TheVariants.{Same}
 use Rattle.port_model.specs.Draws.{ByteStream}
-use Rattle.mapped_trees.specs.Plans.{IsPlanOf, node_of}
+use Rattle.vault_spec.specs.PlanOf.{IsPlanOf, node_of}
 use Rattle.tree_match.specs.Mapping.{IsMappedPlan}
 use Rattle.tree_match.specs.Trees.{IsWalkOf, Side}
 use Rattle.vault_read.specs.Laws.{HasOwnFolders, HaveOneAnswer}

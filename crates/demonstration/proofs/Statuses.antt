@@ -1,6 +1,6 @@
 -- What the status of a migration tells of its answer, and of its fault.
 use Rattle.std.proofs.Common.{◌≡◌, ◌≢◌, ◌⊎◌, ◌≤◌, ℕ, arith, inl, inr, refl, sym, ap, subst, ◌∙◌, IsTrue}
-use Rattle.content_writing.specs.declared.fault.PutFault.TheVariants as put
+use Rattle.item_making.specs.declared.fault.PutFault.TheVariants as put
 use Rattle.folder_spec.specs.Path.{Path}
 use Rattle.migrate_core.specs.Completing.{IsOfChance}
 use Rattle.migrate_core.specs.declared.fault.MoveFault.{MoveFault}

@@ -1,7 +1,7 @@
 -- What is seen between the steps of the demonstration, from step to step.
 use Rattle.std.proofs.Common.{◌≡◌, ◌≢◌, ◌≤◌, ◌∙◌, ◌++◌, ◌∷◌, [], ℕ, Bool, List, length, Option, Some, None, codes, inl, inr, IsTrue, refl, sym, ap, subst, arith}
 use Rattle.std.proofs.lemmas.List.{length-map}
-use Rattle.content_writing.specs.declared.fault.PutFault.TheVariants as put
+use Rattle.item_making.specs.declared.fault.PutFault.TheVariants as put
 use Rattle.demo_core.specs.Making.{CanEnter, CanMake, HoldsInOrder, IsOfChance, IsOfItems, IsTaken, MakesBeside, making_folder, phrase}
 use Rattle.demo_core.specs.declared.fault.MakeFault.{MakeFault}
 use Rattle.demo_core.specs.declared.fault.MakeFault.TheVariants.{Work, Load, Put, NoMemory}
@@ -32,7 +32,7 @@ use Rattle.vault_spec.specs.Opens.{AreItems, Tree, tree}
 use Rattle.vault_spec.specs.Plan.{IsPlan, Planned, paths_of}
 use Rattle.vault_spec.specs.Vault.{IsVault, Vault, format_of}
 use Rattle.vault_walk.specs.Surveyed.{IsPlanOf, placed}
-use Rattle.content_writing.specs.Trees.{ShowsVault}
+use Rattle.item_making.specs.Trees.{ShowsVault}
 use Rattle.work_folder.specs.Entering.{IsFresh}
 use Rattle.demonstration.specs.Demo.{IsBare}
 use Rattle.demonstration.specs.DemoSteps.{CanCarry, CanLead, HasCarried, HoldsWell, IsBeside, Sees, kind_from}

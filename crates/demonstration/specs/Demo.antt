@@ -9,7 +9,7 @@ use Rattle.folder_spec.specs.Event.{Told}
 use Rattle.folder_spec.specs.Path.{Part, Path}
 use Rattle.folder_spec.specs.Seen.{IsSeen}
 use Rattle.folder_spec.specs.View.{Folder, NoEntry, View}
-use Rattle.content_writing.specs.declared.fault.PutFault.TheVariants as put
+use Rattle.item_making.specs.declared.fault.PutFault.TheVariants as put
 use Rattle.migrate_core.specs.Completing.{IsOfChance}
 use Rattle.migrate_core.specs.declared.fault.MoveFault.{MoveFault}
 use Rattle.migrate_core.specs.declared.fault.MoveFault.TheVariants.{Failed, Match as Matching, Place}

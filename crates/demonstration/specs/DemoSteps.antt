@@ -12,7 +12,7 @@ use Rattle.vault_read.specs.declared.vault.VaultKind.{VaultKind}
 use Rattle.vault_read.specs.declared.vault.VaultKind.TheVariants as kind
 use Rattle.vault_spec.specs.Tidy.{IsTidy}
 use Rattle.vault_spec.specs.Vault.{format_of}
-use Rattle.content_writing.specs.Trees.{ShowsVault}
+use Rattle.item_making.specs.Trees.{ShowsVault}
 use Rattle.demonstration.specs.DemoTrees.{kind_to, moving_folder, source_of, target_of, third_root}
 use Rattle.demonstration.specs.declared.leading.Leg.{Leg}
 use Rattle.demonstration.specs.declared.leading.Leg.TheVariants.{There, Back}

@@ -9,7 +9,7 @@ ghost use Rattle.demonstration.specs.DemoSteps.{CanCarry, CanLead, HasCarried, S
 ghost use Rattle.demonstration.specs.DemoTrees.{Carries, IsMoved, IsNewAt, Leads, LeavesSource, WhereTold, kind_to, source_of, target_of};
 ghost use Rattle.folder_spec.specs.Seen.{IfSeen};
 ghost use Rattle.migrate_core.specs.Faults.{IsMoveFault, is_of_begin};
-ghost use Rattle.move_journal.specs.Journal.{IsParsed};
+ghost use Rattle.folder_model.specs.Text.{IsParsed};
 ghost use Rattle.migration_answers.specs.Stops.{is_of_refusal, is_of_stop};
 ghost use Rattle.port_model.specs.Counts.{CountRose};
 ghost use Rattle.retire_core.specs.Causes.{IsOfFolder};
@@ -27,7 +27,6 @@ use demo_core::laws::{
 use demo_core::{MakeFault, PASSPHRASE, make_vault, place};
 use folder_model::{FPath, Folder};
 use folder_spec::laws::roots_show_their_own;
-use mapped_trees::laws::trees_stay_by_same;
 use migrate_core::MoveFault;
 use migrate_core::laws::small_contents_pass_no_limit;
 use migration_answers::{answer_to_move, answer_to_retire};
@@ -41,7 +40,7 @@ use std::alloc::{AllocError, Global};
 use tree_match::laws::{plans_stay_by_same, walks_tell_the_tree, what_is_held_opens_the_same};
 use vault_read::VaultKind;
 use vault_read::laws::roots_have_one_answer;
-use vault_spec::laws::plans_are_the_tree;
+use vault_spec::laws::{plans_are_the_tree, trees_stay_by_same};
 use work_folder::Work;
 
 /// One of the two migrations: from `g` to `c`, or from `c` to `h`.

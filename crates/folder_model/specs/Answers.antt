@@ -1,6 +1,6 @@
 -- How the calls of a folder answer.
 use Rattle.std.specs.Prelude.{◌≡◌, ℕ, ◌≤◌, ◌-◌, List, ◌++◌, take, drop, length, min, Option, Some, None, Result, Ok, Err}
-use Rattle.port_model.specs.Counts.{CountRose, IsCounted}
+use Rattle.port_model.specs.Counts.{Blames, CountRose, IsCounted}
 use Rattle.folder_spec.specs.declared.FolderFault.{FolderFault}
 use Rattle.folder_spec.specs.declared.FolderFault.TheVariants.{Failed, Refused, NoMemory}
 use Rattle.folder_spec.specs.Event.{Told}
@@ -48,3 +48,8 @@ CountsAbove before after (Ok value) = before ≤ after
 CountsAbove before after (Err Failed) = (before ≤ after) × CountRose before after
 CountsAbove before after (Err Refused) = (before ≤ after) × CountRose before after
 CountsAbove before after (Err NoMemory) = before ≤ after
+
+-- A call above a folder only looks: what the folder tells stays, and it may be blamed for that.
+pub record OnlyLooks (before after : Option Told) (blamed : Type 0) (old new : ℕ) : Type 0 where
+  pub told : after ≡ before
+  pub blames : Blames blamed old new

@@ -3,7 +3,7 @@ use Rattle.std.specs.Prelude.{ℕ, List, [], codes}
 use Rattle.kdf_suite.specs.Hkdf.{hkdf_sha256}
 use Rattle.kdf_suite.specs.Scrypt.{scrypt_key}
 use Rattle.kdf_suite.specs.ScryptCost.{Cost}
-use Rattle.vault_keys.specs.declared.keys.GoKeys.{GoKeys}
+use Rattle.vault_values.specs.declared.keys.GoKeys.{GoKeys}
 
 -- what keys of AES-256-GCM and of EME are for
 abbrev pub content_info : List ℕ

@@ -4,7 +4,7 @@ use Rattle.base64.specs.GeneralPurpose.{IsBytes}
 use Rattle.kdf_suite.specs.ScryptCost.{Cost, IsCost}
 use Rattle.gocrypt_conf.specs.declared.conf.GoConf.{GoConf}
 use Rattle.gocrypt_conf.specs.declared.conf.GoDraw.{GoDraw}
-use Rattle.vault_keys.specs.declared.keys.GoKeys.{GoKeys}
+use Rattle.vault_values.specs.declared.keys.GoKeys.{GoKeys}
 use Rattle.gocrypt_conf.specs.Keys.{keys_of}
 use Rattle.gocrypt_conf.specs.MasterKey.{Unlocks}
 use Rattle.gocrypt_conf.specs.Tests.{Answer, ReadsAs}

@@ -3,7 +3,7 @@ use Rattle.std.specs.Prelude.{◌≡◌, ℕ, List, ◌++◌, take, replicate}
 use Rattle.aes_lanes.specs.Cipher.{aes256}
 use Rattle.gcm_mode.specs.Gcm.{Sealed, sealed}
 use Rattle.gocrypt_conf.specs.declared.conf.GoConf.{GoConf}
-use Rattle.vault_keys.specs.declared.keys.GoKeys.{GoKeys}
+use Rattle.vault_values.specs.declared.keys.GoKeys.{GoKeys}
 use Rattle.gocrypt_conf.specs.Keys.{keys_of, unlocking_key}
 
 -- a master key sealed under a key and a nonce: the nonce, the encrypted key and the tag, by GCM with

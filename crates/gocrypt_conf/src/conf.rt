@@ -1,7 +1,7 @@
 //! The configuration of a gocryptfs vault, and what is drawn for a new one.
 
 use kdf_suite::ScryptCost;
-use text_model::Bytes;
+use vault_values::Bytes;
 
 /// What `gocryptfs.conf` says.
 #[derive(Drop)]

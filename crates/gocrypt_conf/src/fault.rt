@@ -6,7 +6,7 @@ ghost use Rattle.gocrypt_conf.specs.Fault.{fault_text};
 use json_fields::FieldFault;
 use std::alloc::AllocError;
 use std::fmt;
-use text_model::Text;
+use vault_values::Text;
 
 /// Why a configuration is refused: the first of its tests that fails.
 #[derive(PartialEq, Eq, Drop)]

@@ -5,7 +5,7 @@ ghost use Rattle.gocrypt_conf.specs.Keys.{derived_key, keys_of, unlocking_key};
 
 use kdf_suite::{ScryptCost, hkdf256, scrypt};
 use std::alloc::{AllocError, Global};
-use vault_keys::GoKeys;
+use vault_values::GoKeys;
 
 const CONTENT_INFO: &[u8] = b"AES-GCM file content encryption";
 

@@ -14,7 +14,7 @@ use crate::fields::{Fields, fields_of};
 use json_fields::json_object;
 use kdf_suite::ScryptCost;
 use std::alloc::Global;
-use text_model::{Bytes, Text};
+use vault_values::{Bytes, Text};
 
 // The flags that must all be there, and no others.
 const KNOWN_FLAGS: [&str; 6] = [

@@ -1,7 +1,7 @@
 //! The keys that a configuration and a passphrase give.
 
 ghost use Rattle.std.specs.Prelude.{◌≡◌, IfOk, Err};
-ghost use Rattle.vault_keys.specs.declared.keys.GoKeys.{GoKeys};
+ghost use Rattle.vault_values.specs.declared.keys.GoKeys.{GoKeys};
 ghost use Rattle.gocrypt_conf.specs.declared.fault.UnlockFault.TheVariants.{WrongPass};
 ghost use Rattle.gocrypt_conf.specs.MasterKey.{Unlocks};
 
@@ -10,7 +10,7 @@ use crate::fault::UnlockFault;
 use crate::keys::{keys_of, unlocking_key};
 use crate::master_key::unseal_master;
 use std::alloc::Global;
-use vault_keys::GoKeys;
+use vault_values::GoKeys;
 
 /// The keys of a vault, from its configuration and passphrase.
 ///

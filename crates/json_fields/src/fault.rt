@@ -3,7 +3,7 @@
 ghost use Rattle.std.specs.Prelude.{◌≡◌, ◌⊎◌};
 
 use std::alloc::{AllocError, Global};
-use text_model::Text;
+use vault_values::Text;
 
 /// Why a field isn't read.
 #[derive(PartialEq, Eq, Drop)]

@@ -9,15 +9,16 @@ use Rattle.folder_spec.specs.Path.{Path}
 use Rattle.folder_spec.specs.Region.{SparesOld}
 use Rattle.folder_spec.specs.Seen.{seen}
 use Rattle.folder_spec.specs.State.{IsSound}
-use Rattle.move_journal.specs.Journal.{IsDigest, IsJournal, IsParsed, journal_text}
+use Rattle.folder_model.specs.Text.{IsParsed}
+use Rattle.move_journal.specs.Journal.{IsDigest, IsJournal, journal_text}
 use Rattle.move_journal.specs.Writing.{IsWriting, Writes, HasWritten, elsewhere}
 use Rattle.move_journal.specs.declared.journal.Journal.{Journal}
 use Rattle.move_journal.specs.declared.journal.Phase.TheVariants.{Building}
 use Rattle.migration_spec.specs.Alone.{Progress, Unbegun, Begun, IsAlone, StaysAlone, StaysGuarded}
 use Rattle.migration_sides.specs.Sides.{IsWalked}
 use Rattle.migration_spec.specs.Guard.{Migration, Tells, tree_at}
-use Rattle.mapped_trees.specs.Plans.{IsPlanOf}
-use Rattle.mapped_trees.specs.Trees.{AllowsTree, StaysApart}
+use Rattle.vault_spec.specs.PlanOf.{IsPlanOf}
+use Rattle.vault_spec.specs.Mapped.{AllowsTree, StaysApart}
 use Rattle.tree_match.specs.Mapping.{IsMappedPlan}
 use Rattle.tree_match.specs.Trees.{IsWalkOf, side_of}
 use Rattle.vault_spec.specs.Opened.{OpenedVault}

@@ -4,8 +4,8 @@ use Rattle.folder_model.proofs.Counting.{rose_since}
 use Rattle.folder_model.specs.Answers.{CountsAbove}
 use Rattle.folder_spec.specs.declared.FolderFault.{FolderFault}
 use Rattle.folder_spec.specs.declared.FolderFault.TheVariants as folder
-use Rattle.content_writing.specs.declared.fault.PutFault.{PutFault}
-use Rattle.content_writing.specs.declared.fault.PutFault.TheVariants as put
+use Rattle.item_making.specs.declared.fault.PutFault.{PutFault}
+use Rattle.item_making.specs.declared.fault.PutFault.TheVariants as put
 use Rattle.port_model.specs.Counts.{CountRose}
 use Rattle.vault_write.specs.Faults.{IsFileFault}
 use Rattle.folder_spec.specs.Apart.{AreSeparate}

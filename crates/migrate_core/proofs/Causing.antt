@@ -22,8 +22,8 @@ use Rattle.migrate_core.specs.Causes.{Answer, ForbidsMappedLast, IsOfMoving, IsS
 use Rattle.migrate_core.specs.Copying.{HaveOwnFolders}
 use Rattle.migrate_core.specs.Faults.{of_map, of_match, of_put, of_work}
 use Rattle.migrate_core.specs.Sides.{AllowsEachMapped, AllowsMappedLast}
-use Rattle.content_writing.specs.declared.fault.PutFault.{PutFault}
-use Rattle.content_writing.specs.declared.fault.PutFault.TheVariants as put
+use Rattle.item_making.specs.declared.fault.PutFault.{PutFault}
+use Rattle.item_making.specs.declared.fault.PutFault.TheVariants as put
 use Rattle.migrate_core.specs.declared.fault.MoveFault.TheVariants as moves
 use Rattle.migrate_core.specs.declared.fault.MoveFault.{MoveFault}
 use Rattle.migrate_core.specs.declared.fault.MoveFault.TheVariants.{Failed, NoMemory, NotAllowed}

@@ -15,8 +15,8 @@ use Rattle.plain_tree.specs.Mapped.{mapped_path}
 use Rattle.plain_tree.specs.Names as plain
 use Rattle.plain_tree.specs.declared.name_map.NameMap.{NameMap}
 use Rattle.tree_match.specs.Comparing.{Answers, Outcome, Stops}
-use Rattle.mapped_trees.specs.Plans.{IsPlanOf}
-use Rattle.mapped_trees.specs.Trees.{IsHeldIn, IsPartOf, IsWhole}
+use Rattle.vault_spec.specs.PlanOf.{IsPlanOf}
+use Rattle.vault_spec.specs.Mapped.{IsHeldIn, IsPartOf, IsWhole}
 use Rattle.tree_match.specs.Trees.{AreSame, IsMappedWalkOf, IsSameOrTooLong, IsTooLong, IsWalkOf, Side, match_of, side_of, side_with, tree_of}
 use Rattle.tree_match.specs.declared.answer.Match.{Match}
 use Rattle.tree_match.specs.declared.answer.MatchFault.{MatchFault}

@@ -2,8 +2,8 @@
 use Rattle.std.proofs.Common.{◌≡◌, ◌≢◌, inl, inr, List, [], ◌∷◌, ◌++◌, ℕ, zero, suc, Bool, false, length, ◌≤◌, Result, Ok, Err, MatchResult, IfErr, Contains, refl, sym, ap, ◌∙◌, subst, arith}
 use Rattle.std.proofs.Math.Path.{fun_ext}
 use Rattle.chunk_files.specs.Reading as reading
-use Rattle.content_writing.specs.declared.fault.PutFault.{PutFault}
-use Rattle.content_writing.specs.declared.fault.PutFault.TheVariants as put
+use Rattle.item_making.specs.declared.fault.PutFault.{PutFault}
+use Rattle.item_making.specs.declared.fault.PutFault.TheVariants as put
 use Rattle.folder_spec.proofs.Paths.{below-append}
 use Rattle.folder_spec.specs.Path.{Path, parent}
 use Rattle.folder_spec.specs.Seen.{under}
@@ -11,7 +11,7 @@ use Rattle.folder_spec.specs.View.{FileOf, Folder, Found, NoEntry, Special, View
 use Rattle.folder_spec.specs.declared.FolderFault.{FolderFault}
 use Rattle.folder_spec.specs.declared.Kind.{Kind}
 use Rattle.folder_spec.specs.declared.Kind.TheVariants as kind
-use Rattle.content_writing.specs.Making.{is_inside}
+use Rattle.item_making.specs.Making.{is_inside}
 use Rattle.migrate_core.proofs.Writings.{in_second}
 use Rattle.migrate_core.specs.Causes.{Answer, Begins, BeginsApart, BeginsWith, EndsSo, ForbidsMappedLast, IsOfMoving, IsStop, Moves, StopsAt, StopsMatch, TestsEmpty, TestsMapped, TestsNames, Unless}
 use Rattle.migrate_core.specs.Completing.{CanBegin, IsIntact, IsOfChance}
@@ -30,8 +30,8 @@ use Rattle.migration_sides.specs.Sides.{IsShallow}
 use Rattle.migration_sides.specs.Tests.{PassesOr, Then, own}
 use Rattle.migration_spec.specs.Guard as guard
 use Rattle.migration_spec.specs.Guard.{AreOpenedBy, HoldsSource, IsWork, Migration, kinds_in, tree_at}
-use Rattle.mapped_trees.specs.Plans.{IsPlanOf}
-use Rattle.mapped_trees.specs.Trees.{AllowsTree, StaysApart}
+use Rattle.vault_spec.specs.PlanOf.{IsPlanOf}
+use Rattle.vault_spec.specs.Mapped.{AllowsTree, StaysApart}
 use Rattle.plain_tree.specs.declared.name_map.NameMap.{NameMap}
 use Rattle.tree_match.specs.Mapping.{IsMappedPlan, MapsTo}
 use Rattle.tree_match.specs.Trees.{IsWalkOf, side_of}

@@ -31,9 +31,9 @@ use Rattle.tree_match.proofs.HeldTrees.{IsNoDifference}
 use Rattle.tree_match.proofs.Passing.{NoneMeet, TellsTree, compares_met, holds_met}
 use Rattle.migration_spec.specs.Guard as guard
 use Rattle.migration_spec.specs.Guard.{AreOpenedBy, Case, HasJournal, HoldsSource, IsThere, IsWork, Migration, kinds_in, tree_at}
-use Rattle.mapped_trees.proofs.Held as mapped_trees
-use Rattle.mapped_trees.specs.Plans.{IsPlanOf, node_of}
-use Rattle.mapped_trees.specs.Trees.{AllowsTree, IsPartOf, StaysApart}
+use Rattle.vault_spec.proofs.MappedHeld as mapped
+use Rattle.vault_spec.specs.PlanOf.{IsPlanOf, node_of}
+use Rattle.vault_spec.specs.Mapped.{AllowsTree, IsPartOf, StaysApart}
 use Rattle.plain_tree.specs.declared.name_map.NameMap.{NameMap}
 use Rattle.tree_match.specs.Mapping.{IsMappedPlan}
 use Rattle.tree_match.specs.Trees.{Compares, HoldsAllOrTooLong, IsMappedWalkOf, IsWalkOf, Side, match_of, side_of, tree_of}
@@ -207,7 +207,7 @@ module _ (laws : AreCited) (g : Migration) (v : View) (from_pass to_pass : List 
         journal = x.journal;
         target = x.target.there;
         apart = x.target.all.apart;
-        part = mapped_trees.part g.names g.held (tree_at g.target v) x.target.all.held x.target.all.whole;
+        part = mapped.part g.names g.held (tree_at g.target v) x.target.all.held x.target.all.whole;
         allowed = x.allowed;
       }) work answer may tested
 

@@ -2,10 +2,11 @@
 use Rattle.std.proofs.Common.{◌≡◌, ◌≢◌, ◌<◌, ◌+◌, ℕ, List, [], ◌∷◌, ◌++◌, length, take, get_or, Option, Some, None, Ok, refl, sym, ap, ◌∙◌, inl, inr, subst, subst₂, append-nil, append_assoc}
 use Rattle.std.proofs.lemmas.List.{take_more}
 use Rattle.std.proofs.lemmas.List.Elements.{Contains-append_left, Contains-append_right, Contains-push_cases}
-use Rattle.content_writing.specs.Content.{Coming, Ending, Whole}
+use Rattle.item_making.specs.Ending.{Ending, Whole}
+use Rattle.content_writing.specs.Content.{Coming}
 use Rattle.vault_faults.specs.Limits.{content_limit}
 use Rattle.vault_contents.specs.Coming.{coming_read}
-use Rattle.content_writing.specs.declared.fault.PutFault.TheVariants.{Taken}
+use Rattle.item_making.specs.declared.fault.PutFault.TheVariants.{Taken}
 use Rattle.folder_spec.proofs.Paths.{base_or_child, one_or_not}
 use Rattle.folder_spec.specs.Event.{Told}
 use Rattle.folder_spec.specs.Path.{Path}
@@ -16,7 +17,7 @@ use Rattle.plain_tree.specs.declared.name_map.NameMap.{NameMap}
 use Rattle.port_model.specs.Draws.{ByteStream}
 use Rattle.folder_spec.specs.Apart.{AreSeparate}
 use Rattle.migration_spec.proofs.Placing.{part_gains}
-use Rattle.mapped_trees.specs.Trees.{IsMappedItem, IsPartOf}
+use Rattle.vault_spec.specs.Mapped.{IsMappedItem, IsPartOf}
 use Rattle.tree_match.specs.Trees.{side_of}
 use Rattle.vault_spec.specs.Opened.{OpenedVault}
 use Rattle.vault_spec.specs.Adding.{OpensWith}
@@ -28,9 +29,9 @@ use Rattle.vault_spec.specs.Plan.{Planned}
 use Rattle.vault_spec.specs.Vault.{format_of}
 use Rattle.vault_walk.specs.Surveyed.{IsWithin}
 use Rattle.vault_write.specs.Calls.{MakesAt, MakesOne, MakesDirectory, New}
-use Rattle.content_writing.specs.Making.{Placing, is_apart}
-use Rattle.content_writing.specs.Placing.{EndsAs}
-use Rattle.content_writing.specs.Trees.{StaysGood, opens_as}
+use Rattle.item_making.specs.Making.{Placing, is_apart}
+use Rattle.item_making.specs.Placing.{EndsAs}
+use Rattle.item_making.specs.Trees.{StaysGood, opens_as}
 use Rattle.migrate_core.proofs.Movings.{moves_to, seen_stays, source_apart}
 use Rattle.migrate_core.proofs.Placings.{no_answer}
 use Rattle.migrate_core.proofs.Planned.{DirectoriesOpen, FilesFit, FilesOpen, file_opens, mapped_walk_of, reader_of}

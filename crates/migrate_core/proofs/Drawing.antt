@@ -1,10 +1,10 @@
 -- What a migration draws until it ends, and that zeros were drawn last where they are why.
 use Rattle.std.proofs.Common.{◌≡◌, ◌≢◌, ◌∙◌, ℕ, zero, suc, ◌*◌, List, [], ◌++◌, length, take, drop, replicate, Option, Result, Ok, Err, IfErr, IsErrAnd, inl, inr, refl, sym, ap, subst, arith, append_assoc}
 use Rattle.std.proofs.lemmas.List.{length-drop, take-append-drop, take_all}
-use Rattle.content_writing.specs.Content.{Ending}
+use Rattle.item_making.specs.Ending.{Ending}
 use Rattle.content_writing.specs.Writing.{sixteen}
-use Rattle.content_writing.specs.declared.fault.PutFault.{PutFault}
-use Rattle.content_writing.specs.declared.fault.PutFault.TheVariants as put
+use Rattle.item_making.specs.declared.fault.PutFault.{PutFault}
+use Rattle.item_making.specs.declared.fault.PutFault.TheVariants as put
 use Rattle.folder_spec.proofs.Paths.{base_or_child}
 use Rattle.folder_spec.specs.Event.{Told}
 use Rattle.folder_spec.specs.Path.{Path}

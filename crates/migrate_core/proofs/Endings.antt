@@ -20,7 +20,7 @@ use Rattle.plain_tree.specs.declared.name_map.NameMap.{NameMap}
 use Rattle.migration_spec.specs.Alone.{Progress, Unbegun, Begun, Finished, IsAlone, IsIn, StaysGuarded}
 use Rattle.tree_match.specs.Comparing.{Is}
 use Rattle.migration_spec.specs.Guard.{Migration, HoldsAll, HoldsSource, IsThere, Tells, tree_at}
-use Rattle.mapped_trees.specs.Trees.{HasNoBroken, IsHeldIn, IsMapped, IsPartOf, IsWhole, StaysApart}
+use Rattle.vault_spec.specs.Mapped.{HasNoBroken, IsHeldIn, IsMapped, IsPartOf, IsWhole, StaysApart}
 use Rattle.migration_sides.specs.Sides.{IsWalked, opened_in}
 use Rattle.folder_spec.specs.Apart.{AreSeparate}
 use Rattle.tree_match.specs.Trees.{Side, HoldsAllBy, AsSame, IsMappedWalkOf, IsWalkOf, match_of, side_of, tree_of}

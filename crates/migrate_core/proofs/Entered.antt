@@ -12,7 +12,7 @@ use Rattle.plain_tree.specs.Mapped.{mapped_path}
 use Rattle.plain_tree.specs.Names as plain
 use Rattle.plain_tree.specs.Order.{path_cmp}
 use Rattle.plain_tree.specs.declared.name_map.NameMap.{NameMap}
-use Rattle.mapped_trees.specs.Trees.{IsMappedItem}
+use Rattle.vault_spec.specs.Mapped.{IsMappedItem}
 use Rattle.vault_spec.specs.Opened.{OpenedVault}
 use Rattle.vault_spec.specs.Format.{Directory}
 use Rattle.vault_spec.specs.Opens as opens

@@ -2,8 +2,8 @@
 use Rattle.std.proofs.Common.{◌≡◌, ◌≢◌, ℕ, List, [], ◌∷◌, ◌++◌, length, map, refl, sym, ap, ◌∙◌, Contains}
 use Rattle.std.proofs.lemmas.List.{length-map}
 use Rattle.std.proofs.lemmas.List.Sorted.{Contains-permutation, IsPermutation-sym, length_permutation}
-use Rattle.mapped_trees.specs.Plans.{IsPlanOf}
-use Rattle.mapped_trees.specs.Trees.{IsMappedItem, StaysApart}
+use Rattle.vault_spec.specs.PlanOf.{IsPlanOf}
+use Rattle.vault_spec.specs.Mapped.{IsMappedItem, StaysApart}
 use Rattle.plain_tree.specs.Mapped.{mapped_name, mapped_path}
 use Rattle.plain_tree.specs.Names as plain
 use Rattle.plain_tree.specs.declared.name_map.NameMap.{NameMap}

@@ -23,7 +23,7 @@ use Rattle.vault_spec.specs.Findings.{IsClean, IsFileAt}
 use Rattle.vault_spec.specs.Plan.{Planned}
 use Rattle.vault_spec.specs.Vault.{format_of}
 use Rattle.vault_walk.specs.Surveyed.{IsPlanOf}
-use Rattle.content_writing.specs.Making.{is_apart, is_staged}
+use Rattle.item_making.specs.Making.{is_apart, is_staged}
 use Rattle.migrate_core.specs.Moving.{OnlyBrings, MovesBeside, MovesOnly}
 use Rattle.migrate_core.specs.Sides.{AreItemsToMove, IsMappedWalk}
 use Rattle.migration_spec.proofs.Staying.{Kind, stays_more, stays_on, stays_same, stays_settled}

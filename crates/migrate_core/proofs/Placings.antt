@@ -9,16 +9,17 @@ use Rattle.folder_spec.specs.Seen.{IfSeen, seen, under}
 use Rattle.folder_spec.specs.View.{View}
 use Rattle.folder_spec.proofs.Paths.{base_or_child, begins_or_not, below-apart}
 use Rattle.folder_spec.proofs.Tellings.{from_to_more}
-use Rattle.mapped_trees.specs.Trees.{IsMappedItem}
+use Rattle.vault_spec.specs.Mapped.{IsMappedItem}
 use Rattle.plain_tree.specs.Names as plain
 use Rattle.plain_tree.specs.declared.NodeKind.TheVariants.{Dir, File}
 use Rattle.plain_tree.specs.declared.name_map.NameMap.{NameMap}
 use Rattle.port_model.specs.Draws.{ByteStream}
-use Rattle.content_writing.specs.Content.{Coming, Ending, Whole, still_coming}
+use Rattle.item_making.specs.Ending.{Ending, Whole}
+use Rattle.content_writing.specs.Content.{Coming, still_coming}
 use Rattle.vault_contents.specs.VaultContents.{path_of, coming_of}
 use Rattle.vault_contents.specs.declared.vault_content.VaultContent.{VaultContent}
-use Rattle.content_writing.specs.declared.fault.PutFault.{PutFault}
-use Rattle.content_writing.specs.declared.fault.PutFault.TheVariants.{NoMemory, Taken}
+use Rattle.item_making.specs.declared.fault.PutFault.{PutFault}
+use Rattle.item_making.specs.declared.fault.PutFault.TheVariants.{NoMemory, Taken}
 use Rattle.migration_spec.proofs.Kept.{behind_none}
 use Rattle.migration_spec.specs.Alone.{Begun, IsAlone, StaysGuarded}
 use Rattle.migration_spec.specs.Guard.{Migration}
@@ -31,9 +32,9 @@ use Rattle.vault_spec.specs.Making.{NewItem, NewDirectory, NewFile}
 use Rattle.vault_spec.specs.Plan.{Planned}
 use Rattle.vault_write.proofs.Runs.{went_with}
 use Rattle.vault_write.specs.Calls.{New, MakesAt, MakesDirectory, MakesFile, MakesOne}
-use Rattle.content_writing.specs.Making.{Making, Placing, MayCome, StagesOrPlaces, is_apart, is_inside, is_staged, format, making_in, new_item}
-use Rattle.content_writing.specs.Placing.{IsMaking, making_at}
-use Rattle.content_writing.specs.Trees.{opens_as}
+use Rattle.item_making.specs.Making.{Making, Placing, MayCome, StagesOrPlaces, is_apart, is_inside, is_staged, format, making_in, new_item}
+use Rattle.item_making.specs.Placing.{IsMaking, making_at}
+use Rattle.item_making.specs.Trees.{opens_as}
 use Rattle.work_folder.specs.Entering.{IsReady}
 use Rattle.work_folder.specs.Entries.{stage_path}
 use Rattle.migrate_core.proofs.Leadings.{goes_nowhere}

@@ -4,7 +4,8 @@ use Rattle.std.specs.List.{concat}
 use Rattle.chunk_files.specs.Decoding.{started}
 use Rattle.chunk_files.specs.Keys.{Keys}
 use Rattle.chunk_files.specs.Reading as reading
-use Rattle.content_writing.specs.Content.{Coming, Ending, Whole, IsReady, IsTold, still_coming}
+use Rattle.item_making.specs.Ending.{Ending, Whole}
+use Rattle.content_writing.specs.Content.{Coming, IsReady, IsTold, still_coming}
 use Rattle.vault_faults.specs.Limits.{content_limit}
 use Rattle.vault_contents.specs.Coming.{coming_read, ending_of, held_before}
 use Rattle.vault_contents.specs.VaultContents.{path_of, coming_of}
@@ -14,7 +15,7 @@ use Rattle.folder_spec.specs.Event.{Told}
 use Rattle.folder_spec.specs.Seen.{IfSeen, IsSeen, seen, under}
 use Rattle.folder_spec.specs.State.{State}
 use Rattle.folder_spec.specs.View.{View, FileOf, Found}
-use Rattle.mapped_trees.specs.Trees.{IsMappedItem}
+use Rattle.vault_spec.specs.Mapped.{IsMappedItem}
 use Rattle.plain_tree.specs.Names as plain
 use Rattle.plain_tree.specs.declared.NodeKind.TheVariants.{Dir, File}
 use Rattle.plain_tree.specs.declared.name_map.NameMap.{NameMap}
@@ -34,7 +35,7 @@ use Rattle.vault_spec.specs.Opens.{Content, Directory, Opened, Tree}
 use Rattle.vault_spec.specs.Plan.{Planned}
 use Rattle.vault_spec.specs.Vault.{format_of}
 use Rattle.vault_write.specs.Calls.{ReadsElsewhere}
-use Rattle.content_writing.specs.Placing.{MayMake}
+use Rattle.item_making.specs.Placing.{MayMake}
 use Rattle.work_folder.specs.Entering as entering
 use Rattle.migrate_core.proofs.MappedItems.{own_item}
 use Rattle.migrate_core.proofs.Movings.{source_not_in_target, source_not_in_work}

@@ -16,8 +16,8 @@ use Rattle.migration_spec.specs.Alone.{Progress, Begun, Finished, IsAlone, Stays
 use Rattle.migration_spec.specs.Guard.{IsDone, Migration, Tells, tree_at}
 use Rattle.folder_spec.specs.Apart.{AreApart, AreSeparate}
 use Rattle.migration_sides.specs.Sides.{IsWalked}
-use Rattle.mapped_trees.specs.Plans.{IsPlanOf}
-use Rattle.mapped_trees.specs.Trees.{IsMapped}
+use Rattle.vault_spec.specs.PlanOf.{IsPlanOf}
+use Rattle.vault_spec.specs.Mapped.{IsMapped}
 use Rattle.plain_tree.specs.Mapped.{mapped_path}
 use Rattle.plain_tree.specs.Names as plain
 use Rattle.plain_tree.specs.declared.name_map.NameMap.{NameMap}

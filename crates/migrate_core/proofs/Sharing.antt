@@ -5,9 +5,9 @@ use Rattle.std.proofs.lemmas.List.{get_or_default, take_more}
 use Rattle.std.proofs.lemmas.List.Elements.{Contains-append_left, Contains-append_right}
 use Rattle.std.specs.List.{list_all}
 use Rattle.std.specs.declared.cmp.Ordering.TheVariants.{Less, Equal}
-use Rattle.content_writing.specs.Content.{Ending}
-use Rattle.content_writing.specs.declared.fault.PutFault.{PutFault}
-use Rattle.content_writing.specs.declared.fault.PutFault.TheVariants as put
+use Rattle.item_making.specs.Ending.{Ending}
+use Rattle.item_making.specs.declared.fault.PutFault.{PutFault}
+use Rattle.item_making.specs.declared.fault.PutFault.TheVariants as put
 use Rattle.folder_spec.proofs.Moments.{went_more, went_nowhere, went_on}
 use Rattle.folder_spec.proofs.Paths.{base_or_child}
 use Rattle.folder_spec.proofs.Tellings.{from_to_on}
@@ -40,7 +40,7 @@ use Rattle.vault_spec.specs.Staying.{LoadsAlike}
 use Rattle.vault_spec.specs.Tidy.{IsTidy}
 use Rattle.vault_spec.specs.Vault.{IsVault, Vault, format_of}
 use Rattle.vault_write.specs.Calls.{MakesAt, New}
-use Rattle.content_writing.specs.Making.{is_apart}
+use Rattle.item_making.specs.Making.{is_apart}
 use Rattle.vault_write.specs.Refusing.{Answers}
 use Rattle.migrate_core.proofs.Compared.{planned_at}
 use Rattle.tree_match.proofs.Passing.{TellsTree}

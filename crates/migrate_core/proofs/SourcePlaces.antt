@@ -8,7 +8,7 @@ use Rattle.folder_spec.specs.Region.{IsAsBefore, apart_from_both}
 use Rattle.plain_tree.specs.declared.name_map.NameMap.{NameMap}
 use Rattle.vault_spec.specs.Opened.{OpenedVault}
 use Rattle.vault_spec.specs.Plan.{Planned}
-use Rattle.content_writing.specs.Making.{is_apart}
+use Rattle.item_making.specs.Making.{is_apart}
 use Rattle.migrate_core.proofs.Movings.{source_apart, source_beside, moves_to}
 use Rattle.migrate_core.proofs.Planned.{mapped_behind}
 use Rattle.folder_spec.specs.Apart.{AreSeparate}

@@ -7,7 +7,7 @@ use Rattle.folder_spec.specs.Seen.{IfSeen, seen, under}
 use Rattle.folder_spec.specs.State.{State, present}
 use Rattle.folder_spec.specs.View.{View, found}
 use Rattle.tree_match.specs.Comparing.{Is}
-use Rattle.mapped_trees.specs.Trees.{IsPartOf}
+use Rattle.vault_spec.specs.Mapped.{IsPartOf}
 use Rattle.migration_sides.specs.Causes.{Walks}
 use Rattle.migration_sides.specs.Sides.{IsWalked}
 use Rattle.plain_tree.specs.declared.name_map.NameMap.{NameMap}

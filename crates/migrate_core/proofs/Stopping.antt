@@ -2,10 +2,11 @@
 use Rattle.std.proofs.Common.{◌≡◌, ◌≢◌, ℕ, zero, arith, List, [], ◌∷◌, ◌++◌, Contains, Option, Some, None, Result, Ok, Err, IfErr, inl, inr, refl, sym, ap, ◌∙◌, subst}
 use Rattle.chunk_files.specs.Reading as reading
 use Rattle.chunk_files.specs.declared.fault.ChunkFault.{ChunkFault}
-use Rattle.content_writing.specs.Content.{Coming, Ending, Damaged, TooLong}
+use Rattle.item_making.specs.Ending.{Ending, Damaged, TooLong}
+use Rattle.content_writing.specs.Content.{Coming}
 use Rattle.vault_contents.specs.Coming.{ending_of}
-use Rattle.content_writing.specs.declared.fault.PutFault.{PutFault}
-use Rattle.content_writing.specs.declared.fault.PutFault.TheVariants as put
+use Rattle.item_making.specs.declared.fault.PutFault.{PutFault}
+use Rattle.item_making.specs.declared.fault.PutFault.TheVariants as put
 use Rattle.folder_spec.proofs.Paths.{base_or_child}
 use Rattle.folder_spec.specs.Event.{Told}
 use Rattle.folder_spec.specs.Path.{Path}
@@ -30,7 +31,7 @@ use Rattle.vault_spec.specs.Plan.{Planned}
 use Rattle.vault_spec.specs.Vault.{format_of}
 use Rattle.vault_write.specs.Calls.{MakesAt, MakesOne, New}
 use Rattle.vault_write.specs.Faults.{IsDirectoryFault, IsFileFault}
-use Rattle.content_writing.specs.Making.{Placing}
+use Rattle.item_making.specs.Making.{Placing}
 use Rattle.vault_write.specs.Refusing.{Answers, TakesRoot}
 use Rattle.migrate_core.proofs.Causing.{stop_more}
 use Rattle.migrate_core.proofs.Planned.{FilesFit}

@@ -18,7 +18,7 @@ use Rattle.work_folder.specs.Looking as looking
 use Rattle.folder_spec.specs.View.{View}
 use Rattle.vault_spec.specs.Opened.{OpenedVault}
 use Rattle.vault_spec.specs.Plan.{Planned}
-use Rattle.content_writing.specs.declared.fault.PutFault.{PutFault}
+use Rattle.item_making.specs.declared.fault.PutFault.{PutFault}
 use Rattle.migrate_core.specs.Causes.{IsOfPlacing, IsStop, Moves, Unless}
 
 abbrev pub IsTested : MoveFault → Type 0

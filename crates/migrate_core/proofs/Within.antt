@@ -9,7 +9,7 @@ use Rattle.plain_tree.specs.Names as plain
 use Rattle.plain_tree.specs.declared.NodeKind.{NodeKind}
 use Rattle.plain_tree.specs.declared.NodeKind.TheVariants as node
 use Rattle.plain_tree.specs.declared.name_map.NameMap.{NameMap}
-use Rattle.mapped_trees.specs.Trees.{IsMappedItem, IsPartOf}
+use Rattle.vault_spec.specs.Mapped.{IsMappedItem, IsPartOf}
 use Rattle.vault_spec.specs.Alike.{IsOrderly}
 use Rattle.vault_spec.specs.Format.{Directory, Format, file_bytes}
 use Rattle.vault_spec.specs.Listing.{node_of}

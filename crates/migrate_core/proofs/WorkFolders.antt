@@ -21,7 +21,7 @@ use Rattle.move_journal.specs.Reading.{StandsIn}
 use Rattle.move_journal.proofs.Standing.{stands_alike}
 use Rattle.migration_spec.proofs.Kept.{behind_none, entry_inside, staged_in, beside_both}
 use Rattle.folder_spec.specs.Apart.{AreApart}
-use Rattle.content_writing.specs.Making.{is_apart, is_inside, is_staged}
+use Rattle.item_making.specs.Making.{is_apart, is_inside, is_staged}
 use Rattle.work_folder.specs.Changing.{ChangesAt, ChangesOnly, IsChangingAt}
 use Rattle.work_folder.specs.Entering.{Empties, EntersAs, IsReady, IsFresh, IsLeftOver, IsWorkOrStage}
 use Rattle.migrate_core.proofs.Movings.{apart_of, moves_within, moves_on}

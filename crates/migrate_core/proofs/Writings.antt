@@ -15,8 +15,8 @@ use Rattle.folder_spec.specs.Region.{Spares, SparesOld, apart_from}
 use Rattle.folder_spec.specs.Written.{HoldFronts}
 use Rattle.folder_spec.specs.declared.FolderFault.{FolderFault}
 use Rattle.vault_contents.specs.Coming.{ending_of}
-use Rattle.content_writing.specs.declared.fault.PutFault.{PutFault}
-use Rattle.content_writing.specs.declared.fault.PutFault.TheVariants as put
+use Rattle.item_making.specs.declared.fault.PutFault.{PutFault}
+use Rattle.item_making.specs.declared.fault.PutFault.TheVariants as put
 use Rattle.vault_write.specs.Refusing.{Answers}
 use Rattle.migrate_core.specs.Faults.{IsOfTest}
 use Rattle.migrate_core.specs.declared.fault.MoveFault.{MoveFault}
@@ -32,7 +32,7 @@ use Rattle.vault_spec.specs.Opened.{OpenedVault}
 use Rattle.vault_spec.specs.Making.{NewFile}
 use Rattle.vault_spec.specs.Plan.{Planned}
 use Rattle.vault_spec.specs.Vault.{format_of}
-use Rattle.content_writing.specs.Making.{IsPlace, Making, StagesOrPlaces}
+use Rattle.item_making.specs.Making.{IsPlace, Making, StagesOrPlaces}
 use Rattle.work_folder.specs.Changing.{ChangesAt, ChangesOnly, IsChangingAt}
 use Rattle.migrate_core.proofs.Placings.{below_root}
 use Rattle.migrate_core.proofs.WorkFolders.{apart_at, elsewhere_at, not_in_root, not_moved}

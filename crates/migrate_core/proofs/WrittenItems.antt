@@ -10,11 +10,12 @@ use Rattle.folder_spec.specs.State.{State}
 use Rattle.folder_spec.specs.View.{View}
 use Rattle.folder_spec.proofs.Paths.{base_or_child}
 use Rattle.folder_spec.specs.Path.{Path}
-use Rattle.content_writing.specs.Content.{Coming, Ending, Whole}
+use Rattle.item_making.specs.Ending.{Ending, Whole}
+use Rattle.content_writing.specs.Content.{Coming}
 use Rattle.vault_faults.specs.Limits.{content_limit}
 use Rattle.vault_contents.specs.Coming.{coming_read, ending_of, held_before}
-use Rattle.content_writing.specs.declared.fault.PutFault.{PutFault}
-use Rattle.content_writing.specs.declared.fault.PutFault.TheVariants as put
+use Rattle.item_making.specs.declared.fault.PutFault.{PutFault}
+use Rattle.item_making.specs.declared.fault.PutFault.TheVariants as put
 use Rattle.vault_write.specs.Refusing.{Answers, HasTaken}
 use Rattle.migrate_core.specs.Faults.{of_put}
 use Rattle.migrate_core.specs.declared.fault.MoveFault.{MoveFault}
@@ -33,8 +34,8 @@ use Rattle.vault_spec.specs.Plan.{Planned}
 use Rattle.vault_spec.specs.Vault.{format_of}
 use Rattle.chunk_files.specs.Keys.{Keys}
 use Rattle.vault_write.specs.Calls.{MakesAt, MakesOne, New}
-use Rattle.content_writing.specs.Making.{IsPlace, Placing, StagesOrPlaces, format, making_in, new_item, path_of}
-use Rattle.content_writing.specs.Placing.{IsMaking, making_at}
+use Rattle.item_making.specs.Making.{IsPlace, Placing, StagesOrPlaces, format, making_in, new_item, path_of}
+use Rattle.item_making.specs.Placing.{IsMaking, making_at}
 use Rattle.folder_spec.specs.Apart.{AreApart}
 use Rattle.migrate_core.proofs.Planned.{FilesFit, mapped_files, reader_of}
 use Rattle.migration_sides.proofs.Chains.{refused_as}

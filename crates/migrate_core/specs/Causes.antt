@@ -2,8 +2,8 @@
 -- is the answer.
 use Rattle.std.specs.Prelude.{◌≡◌, ◌≢◌, ◌⊎◌, ◌∷◌, [], List, ℕ, length, ◌++◌, Bool, true, false, Result, Ok, Err, Contains, Option}
 use Rattle.chunk_files.specs.Reading.{Ending, Faulty, Wanting}
-use Rattle.content_writing.specs.declared.fault.PutFault.{PutFault}
-use Rattle.content_writing.specs.declared.fault.PutFault.TheVariants as put
+use Rattle.item_making.specs.declared.fault.PutFault.{PutFault}
+use Rattle.item_making.specs.declared.fault.PutFault.TheVariants as put
 use Rattle.folder_spec.specs.Event.{Told}
 use Rattle.folder_spec.specs.Path.{Path}
 use Rattle.folder_spec.specs.Seen.{IfSeen}
@@ -19,7 +19,7 @@ use Rattle.tree_match.specs.Comparing.{content_at}
 use Rattle.migration_sides.specs.Causes.{Opens, TestsApart, WalksBoth}
 use Rattle.migration_sides.specs.Tests.{PassesOr, Then, UnlessBy, all_pass, own}
 use Rattle.migration_spec.specs.Guard.{old_path}
-use Rattle.mapped_trees.specs.Trees.{AllowsMapped}
+use Rattle.vault_spec.specs.Mapped.{AllowsMapped}
 use Rattle.tree_match.specs.Mapping.{MapsTo}
 use Rattle.tree_match.specs.Trees.{Compares, HoldsOr}
 use Rattle.tree_match.specs.declared.answer.How.{How}

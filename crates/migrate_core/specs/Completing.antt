@@ -1,7 +1,7 @@
 -- When no test of `begin` or `resume` fails, and no content stops it: the migration hasn't begun, or goes on, and no limit is passed.
 use Rattle.std.specs.Prelude.{◌≡◌, ◌++◌, false}
 use Rattle.chunk_files.specs.Reading.{Whole}
-use Rattle.content_writing.specs.declared.fault.PutFault.TheVariants as put
+use Rattle.item_making.specs.declared.fault.PutFault.TheVariants as put
 use Rattle.folder_spec.specs.Path.{Path, parent}
 use Rattle.folder_spec.specs.Seen.{under}
 use Rattle.folder_spec.specs.View.{Folder, View}
@@ -9,7 +9,7 @@ use Rattle.migration_sides.specs.Sides.{IsShallow}
 use Rattle.plain_tree.specs.Names as plain
 use Rattle.tree_match.specs.Comparing.{content_at}
 use Rattle.migration_spec.specs.Guard.{Building, Case, Done, IsGuarded, IsNotBegun, IsSeparate, IsWork, Migration, NotBegun, Retired, kinds_in}
-use Rattle.mapped_trees.specs.Trees.{AllowsTree, StaysApart}
+use Rattle.vault_spec.specs.Mapped.{AllowsTree, StaysApart}
 use Rattle.tree_match.specs.declared.answer.MatchFault.TheVariants as match
 use Rattle.vault_spec.specs.Opened.{OpenedVault}
 use Rattle.vault_faults.specs.declared.fault.Limit.TheVariants as limit

@@ -5,7 +5,7 @@ use Rattle.folder_spec.specs.Seen.{IfSeen, IsSeen, under}
 use Rattle.folder_spec.specs.View.{View}
 use Rattle.plain_tree.specs.Names as plain
 use Rattle.plain_tree.specs.declared.name_map.NameMap.{NameMap}
-use Rattle.mapped_trees.specs.Trees.{IsPartOf}
+use Rattle.vault_spec.specs.Mapped.{IsPartOf}
 use Rattle.vault_read.specs.Laws.{HasOwnFolders}
 use Rattle.vault_spec.specs.Opened.{OpenedVault}
 use Rattle.vault_spec.specs.Find.{enter}
@@ -17,7 +17,7 @@ use Rattle.vault_spec.specs.Tidy.{IsTidy}
 use Rattle.vault_spec.specs.Vault.{format_of}
 use Rattle.vault_walk.specs.Surveyed.{IsWithin}
 use Rattle.migration_spec.specs.Guard.{tree_at}
-use Rattle.content_writing.specs.Trees.{ShowsVault}
+use Rattle.item_making.specs.Trees.{ShowsVault}
 
 -- no two directories of either vault share a folder
 pub record HaveOwnFolders (from to : OpenedVault) (v : View) : Type 0 where

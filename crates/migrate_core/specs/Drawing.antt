@@ -1,6 +1,6 @@
 -- What a migration draws; and that it stops at zeros only where it drew them.
 use Rattle.std.specs.Prelude.{◌≡◌, ℕ, List, ◌++◌, replicate, Option, Result, Err}
-use Rattle.content_writing.specs.declared.fault.PutFault.TheVariants as put
+use Rattle.item_making.specs.declared.fault.PutFault.TheVariants as put
 use Rattle.port_model.specs.Draws.{ByteStream, Draws}
 use Rattle.migrate_core.specs.declared.fault.MoveFault.{MoveFault}
 use Rattle.migrate_core.specs.declared.fault.MoveFault.TheVariants.{Place}

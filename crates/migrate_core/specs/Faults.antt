@@ -1,8 +1,8 @@
 -- The faults of the calls below, as a migration tells them. That the folder failed or memory was refused is told as such, whichever call
 -- met it.
 use Rattle.std.specs.Prelude.{◌≡◌, Bool, true, false, IsTrue}
-use Rattle.content_writing.specs.declared.fault.PutFault.{PutFault}
-use Rattle.content_writing.specs.declared.fault.PutFault.TheVariants as put
+use Rattle.item_making.specs.declared.fault.PutFault.{PutFault}
+use Rattle.item_making.specs.declared.fault.PutFault.TheVariants as put
 use Rattle.folder_spec.specs.declared.FolderFault.{FolderFault}
 use Rattle.move_journal.specs.declared.journal.JournalFault.{JournalFault}
 use Rattle.move_journal.specs.declared.journal.JournalFault.TheVariants as journal

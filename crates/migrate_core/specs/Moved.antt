@@ -19,7 +19,7 @@ use Rattle.vault_spec.specs.Vault.{Vault, IsVault, format_of}
 use Rattle.vault_walk.specs.Surveyed.{IsPlanOf}
 use Rattle.work_folder.specs.Entering.{IsReady}
 use Rattle.migrate_core.specs.Sides.{AreTold}
-use Rattle.mapped_trees.specs.Trees.{IsMapped}
+use Rattle.vault_spec.specs.Mapped.{IsMapped}
 use Rattle.migration_sides.specs.Sides.{opened_in}
 use Rattle.tree_match.specs.Mapping.{IsMappedPlan}
 use Rattle.migrate_core.specs.Copying.{StayGood}

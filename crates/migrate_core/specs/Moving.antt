@@ -1,6 +1,6 @@
 -- What a migration changes in the folder.
 use Rattle.std.specs.Prelude.{◌≡◌, ◌⊎◌, Bool, IsTrue, None, Option}
-use Rattle.content_writing.specs.Making.{is_staged}
+use Rattle.item_making.specs.Making.{is_staged}
 use Rattle.folder_spec.specs.Path.{Path, below}
 use Rattle.folder_spec.specs.Event.{Call, MakeDir, Create, Append, Sync, Settle, Rename, RemoveFile, RemoveDir, IsFree, Told}
 use Rattle.folder_spec.specs.Moments.{Moments}

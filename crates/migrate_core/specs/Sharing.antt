@@ -9,7 +9,7 @@ use Rattle.plain_tree.specs.declared.NodeKind.{NodeKind}
 use Rattle.plain_tree.specs.declared.name_map.NameMap.{NameMap}
 use Rattle.plain_tree.specs.declared.NodeKind.TheVariants.{Dir, File}
 use Rattle.port_model.specs.Draws.{ByteStream, Draws}
-use Rattle.content_writing.specs.declared.fault.PutFault.TheVariants as put
+use Rattle.item_making.specs.declared.fault.PutFault.TheVariants as put
 use Rattle.vault_spec.specs.Opened.{OpenedVault}
 use Rattle.vault_spec.specs.Alike.{IsNoItem}
 use Rattle.vault_spec.specs.Find.{enter}
@@ -21,7 +21,7 @@ use Rattle.vault_spec.specs.Standing.{standing_in}
 use Rattle.vault_spec.specs.Staying.{LoadsAlike}
 use Rattle.vault_spec.specs.Tidy.{HasOwnPlace, IsTidy}
 use Rattle.vault_spec.specs.Vault.{Vault, IsVault, format_of}
-use Rattle.content_writing.specs.Trees.{ShowsVault}
+use Rattle.item_making.specs.Trees.{ShowsVault}
 use Rattle.migrate_core.specs.Copying.{HasCopied, HaveOwnFolders, IsCopying}
 use Rattle.migration_spec.specs.Guard.{tree_at}
 use Rattle.migration_sides.specs.Sides.{opened_in}

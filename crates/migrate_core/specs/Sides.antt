@@ -9,7 +9,7 @@ use Rattle.move_journal.specs.declared.journal.Journal.{Journal}
 use Rattle.move_journal.specs.declared.journal.Phase.TheVariants.{Building}
 use Rattle.plain_tree.specs.Names as plain
 use Rattle.plain_tree.specs.declared.name_map.NameMap.{NameMap}
-use Rattle.mapped_trees.specs.Trees.{AllowsMapped}
+use Rattle.vault_spec.specs.Mapped.{AllowsMapped}
 use Rattle.migration_sides.specs.Sides.{IsWalked}
 use Rattle.migration_spec.specs.Guard.{Migration}
 use Rattle.tree_match.specs.Mapping.{IsMappedPlan}

@@ -23,12 +23,12 @@ use Rattle.vault_spec.specs.Format.{Directory}
 use Rattle.vault_spec.specs.Making.{NewItem, NewDirectory, NewFile, draws, edits, files}
 use Rattle.vault_spec.specs.Plan.{Planned}
 use Rattle.vault_spec.specs.Vault.{Vault, IsVault, format_of}
-use Rattle.content_writing.specs.Making.{IsPlace, Placing}
+use Rattle.item_making.specs.Making.{IsPlace, Placing}
 use Rattle.vault_write.specs.Refusing.{Answers, TakesRoot}
-use Rattle.content_writing.specs.Content.{Ending, Whole}
+use Rattle.item_making.specs.Ending.{Ending, Whole}
 use Rattle.vault_contents.specs.Coming.{ending_of}
-use Rattle.content_writing.specs.declared.fault.PutFault.{PutFault}
-use Rattle.content_writing.specs.declared.fault.PutFault.TheVariants as put
+use Rattle.item_making.specs.declared.fault.PutFault.{PutFault}
+use Rattle.item_making.specs.declared.fault.PutFault.TheVariants as put
 use Rattle.migrate_core.specs.declared.fault.MoveFault.{MoveFault}
 use Rattle.migrate_core.specs.declared.fault.MoveFault.TheVariants.{Place}
 use Rattle.work_folder.specs.Entering.{Empties}

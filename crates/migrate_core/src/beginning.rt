@@ -2,7 +2,7 @@
 ghost use Rattle.std.specs.Prelude.{◌≡◌, ◌⊎◌, ◌≤◌, [], IfErr, IfOk, IsTrue, Ok, OnOk};
 ghost use Rattle.port_model.specs.Counts.{CountRose};
 ghost use Rattle.folder_spec.specs.Seen.{IfSeen};
-ghost use Rattle.move_journal.specs.Journal.{IsParsed};
+ghost use Rattle.folder_model.specs.Text.{IsParsed};
 ghost use Rattle.migration_spec.specs.Alone.{KeepsGuarded, Finished, Unbegun};
 ghost use Rattle.migration_spec.specs.Guard.{AreOpenedBy, Migration};
 ghost use Rattle.vault_spec.specs.Vault.{format_of};

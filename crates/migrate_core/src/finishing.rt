@@ -30,7 +30,6 @@ ghost use Rattle.migration_sides.specs.Sides.{IsWalked};
 use crate::fault::MoveFault;
 use crate::placing::{Done, place_missing};
 use folder_model::{FPath, Folder};
-use mapped_trees::laws::mapped_trees_are_held;
 use migration_sides::{Sides, walk_one};
 use migration_spec::laws::{guarded_migrations_are_seen, journals_keep_migrations_guarded};
 use move_journal::{Journal, Phase, write};
@@ -42,7 +41,7 @@ use tree_match::laws::{
 };
 use tree_match::{Match, Where, holds_all, where_of};
 use vault_read::laws::files_have_their_contents;
-use vault_spec::laws::what_stands_is_found_step_by_step;
+use vault_spec::laws::{mapped_trees_are_held, what_stands_is_found_step_by_step};
 use vault_walk::{Plan, PlanItem};
 use work_folder::Work;
 

@@ -1,6 +1,6 @@
 //! The names of the items that are moved: tested, and brought to the form that the migration's rule gives them.
 ghost use Rattle.std.specs.Prelude.{◌≡◌, ◌⊎◌, IfErr, IfOk, OnOk, Ok};
-ghost use Rattle.mapped_trees.specs.Trees.{AllowsMapped};
+ghost use Rattle.vault_spec.specs.Mapped.{AllowsMapped};
 ghost use Rattle.migration_sides.specs.Tests.{nothing_follows};
 ghost use Rattle.tree_match.specs.Mapping.{IsMappedPlan, MapsTo};
 ghost use Rattle.vault_spec.specs.Vault.{format_of};

@@ -9,7 +9,7 @@ ghost use Rattle.migration_spec.specs.Alone.{Begun};
 ghost use Rattle.vault_spec.specs.Vault.{format_of};
 ghost use Rattle.vault_walk.specs.Survey.{IsOrdered};
 ghost use Rattle.vault_faults.specs.Limits.{content_limit};
-ghost use Rattle.content_writing.specs.Making.{is_apart};
+ghost use Rattle.item_making.specs.Making.{is_apart};
 ghost use Rattle.vault_contents.specs.Coming.{coming_read};
 ghost use Rattle.vault_contents.specs.VaultContents.{coming_of, path_of};
 ghost use Rattle.vault_write.specs.Calls.{IsKept};

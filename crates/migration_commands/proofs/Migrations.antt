@@ -4,7 +4,7 @@ use Rattle.std.specs.Prelude.{◌≢◌, ◌||◌, MatchOption, MatchResult, if�
 use Rattle.std.proofs.lemmas.Bool.{or_left}
 use Rattle.std.specs.Io.KnownBytes as known
 use Rattle.std.proofs.KnownBytes.{Keeps-refl}
-use Rattle.content_writing.specs.declared.fault.PutFault.TheVariants as puts
+use Rattle.item_making.specs.declared.fault.PutFault.TheVariants as puts
 use Rattle.folder_spec.specs.Event.{Told}
 use Rattle.folder_spec.specs.Image.{Image, IsImage}
 use Rattle.folder_spec.specs.Moments.{Went}

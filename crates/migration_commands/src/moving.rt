@@ -18,7 +18,7 @@ use move_journal::{Journal, JournalFault, read};
 use open_for_reading::read_pass;
 use port_model::Sink;
 use std::alloc::{AllocError, Global};
-use text_model::Bytes;
+use vault_values::Bytes;
 
 /// The passphrases of a migration's vaults.
 #[derive(Drop)]

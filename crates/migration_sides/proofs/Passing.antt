@@ -1,6 +1,6 @@
 -- Tests that nothing but chance can fail: the folder, memory, or what else a fault says that may always come.
 use Rattle.std.proofs.Common.{◌≡◌, inl, inr, Bool, IfErr, List, ℕ, Result, Ok, Err, MatchResult, refl, sym, subst, subst₂}
-use Rattle.content_writing.specs.Trees.{ShowsVault}
+use Rattle.item_making.specs.Trees.{ShowsVault}
 use Rattle.folder_spec.specs.Path.{Path}
 use Rattle.folder_spec.specs.Seen.{under}
 use Rattle.folder_spec.specs.View.{View}

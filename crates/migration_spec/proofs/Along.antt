@@ -8,7 +8,7 @@ use Rattle.folder_spec.specs.declared.Spot.TheVariants.{Nothing, Directory, File
 use Rattle.folder_spec.specs.State.{Node, Table, State, IsAmong, present, put, moved, moved_spot}
 use Rattle.folder_spec.specs.Event.{Call, MakeDir, Create, Append, Sync, Settle, Rename, RemoveFile, RemoveDir, Outcome, Done, Fell, Denied, Event, with_file, grown, synced, changed, fallen, outcome_state, after}
 use Rattle.folder_spec.specs.Moments.{EachState, EachEvent}
-use Rattle.content_writing.specs.Making.{Making, is_inside, is_staged, StagesOrPlaces}
+use Rattle.item_making.specs.Making.{Making, is_inside, is_staged, StagesOrPlaces}
 use Rattle.work_folder.specs.Entries.{stage_path}
 
 -- no table has at a staged path what is neither a file nor a directory

@@ -11,7 +11,7 @@ use Rattle.folder_spec.specs.Region.{at_or_below}
 use Rattle.folder_spec.specs.Seen.{under}
 use Rattle.folder_spec.specs.View.{View, AgreeIn, Shows, found, kind_found, view_of}
 use Rattle.folder_spec.specs.declared.Kind.{Kind}
-use Rattle.mapped_trees.specs.Trees.{IsMapped, IsPartOf}
+use Rattle.vault_spec.specs.Mapped.{IsMapped, IsPartOf}
 use Rattle.move_journal.proofs.Standing.{stands_alike}
 use Rattle.move_journal.specs.declared.journal.Phase.{Phase}
 use Rattle.move_journal.specs.declared.journal.Phase.TheVariants as phase

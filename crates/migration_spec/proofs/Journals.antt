@@ -26,10 +26,10 @@ use Rattle.migration_spec.proofs.Kept.{behind_none, only_shown, table_work, kept
 use Rattle.migration_spec.specs.Alone.{Progress, Unbegun, Begun, Finished, IsIn, IsAlone, StaysGuarded}
 use Rattle.migration_spec.specs.Guard.{Migration, IsSeparate, IsThere, HoldsSource, HoldsAll, IsNotBegun, IsBuilding, HasJournal, Tells, IsWork, is_kept, Guarded, old_path}
 use Rattle.folder_spec.specs.Apart.{AreApart}
-use Rattle.mapped_trees.specs.Trees.{AllowsTree, StaysApart}
+use Rattle.vault_spec.specs.Mapped.{AllowsTree, StaysApart}
 use Rattle.vault_spec.specs.Opens.{tree}
 use Rattle.vault_spec.specs.Vault.{format_of}
-use Rattle.content_writing.specs.Making.{is_inside}
+use Rattle.item_making.specs.Making.{is_inside}
 use Rattle.work_folder.specs.Entries.{journal_path, new_journal_path, stage_path, is_foreign}
 
 -- ---- the work folder of each table

@@ -14,7 +14,7 @@ use Rattle.migration_spec.proofs.Guards.{or_cases, in_source, RootsAreAlike, Ima
 use Rattle.migration_spec.specs.Alone.{Progress, Unbegun, Begun, Finished, IsIn, IsAlone}
 use Rattle.migration_spec.specs.Guard.{Migration, IsSeparate, HoldsSource, Case, NotBegun, Building, Done, Retired, has_old, IsWork, kinds_in, IsGuarded, Guarded, is_kept}
 use Rattle.folder_spec.specs.Apart.{AreApart}
-use Rattle.content_writing.specs.Making.{is_inside, is_staged}
+use Rattle.item_making.specs.Making.{is_inside, is_staged}
 use Rattle.work_folder.specs.Entries.{journal_path, is_foreign}
 use Rattle.folder_spec.proofs.Stages.{at_itself}
 

@@ -1,7 +1,7 @@
 -- That a migration stays guarded while items of the source are made in the target.
 use Rattle.std.proofs.Common.{◌≡◌, ◌≢◌, ◌⊎◌, Bool, true, false, ◌&&◌, not, List, [], ◌∷◌, ◌++◌, None, Result, Ok, refl, sym, ap, ◌∙◌, inl, inr, subst, append_assoc, append-nil, codes, IsTrue, is_none}
-use Rattle.content_writing.specs.Content.{Ending, Whole}
-use Rattle.content_writing.specs.declared.fault.PutFault.{PutFault}
+use Rattle.item_making.specs.Ending.{Ending, Whole}
+use Rattle.item_making.specs.declared.fault.PutFault.{PutFault}
 use Rattle.folder_spec.proofs.Moments.{went_nowhere, went_on, went_to}
 use Rattle.folder_spec.proofs.Paths.{one_or_not, begins_or_not, below-apart}
 use Rattle.folder_spec.specs.Path.{Part, Path, below, child}
@@ -13,7 +13,7 @@ use Rattle.folder_spec.specs.Region.{AlikeIn, apart_from}
 use Rattle.folder_spec.specs.Seen.{under}
 use Rattle.folder_spec.specs.View.{View, Shows, ShowsAmong}
 use Rattle.folder_spec.specs.declared.Kind.TheVariants as kind
-use Rattle.mapped_trees.specs.Trees.{IsMappedItem, IsPartOf, IsWhole}
+use Rattle.vault_spec.specs.Mapped.{IsMappedItem, IsPartOf, IsWhole}
 use Rattle.plain_tree.specs.Names as plain
 use Rattle.plain_tree.specs.declared.name_map.NameMap.{NameMap}
 use Rattle.migration_spec.proofs.Along.{NoOdd, none_along, both_along, nothing_each}
@@ -26,9 +26,9 @@ use Rattle.vault_spec.specs.Adding.{OpensAs, OpensWith}
 use Rattle.vault_spec.specs.Making.{NewItem, NewDirectory, NewFile}
 use Rattle.vault_spec.specs.Opens.{NoItem, Tree}
 use Rattle.vault_spec.specs.Vault.{format_of}
-use Rattle.content_writing.specs.Making.{Placing, Making, is_inside, is_staged, is_elsewhere, StagesOrPlaces}
-use Rattle.content_writing.specs.Placing.{HasVault, ShowsOne, IsMaking, making_at}
-use Rattle.content_writing.specs.Trees.{KeepsVault, KeepsTree, GainsItem, opens_as}
+use Rattle.item_making.specs.Making.{Placing, Making, is_inside, is_staged, is_elsewhere, StagesOrPlaces}
+use Rattle.item_making.specs.Placing.{HasVault, ShowsOne, IsMaking, making_at}
+use Rattle.item_making.specs.Trees.{KeepsVault, KeepsTree, GainsItem, opens_as}
 use Rattle.work_folder.specs.Entries.{journal_path, is_foreign}
 
 -- ---- the region of both vaults and the journal

@@ -11,8 +11,8 @@ use Rattle.folder_spec.specs.Seen.{under}
 use Rattle.folder_spec.specs.View.{View, NoEntry, kind_found, view_of}
 use Rattle.folder_spec.specs.declared.Kind.{Kind}
 use Rattle.folder_spec.specs.declared.Kind.TheVariants as kind
-use Rattle.mapped_trees.specs.Plans.{IsPlanOf}
-use Rattle.mapped_trees.specs.Trees.{AllowsTree, HasNoBroken, IsMapped, IsPartOf, StaysApart}
+use Rattle.vault_spec.specs.PlanOf.{IsPlanOf}
+use Rattle.vault_spec.specs.Mapped.{AllowsTree, HasNoBroken, IsMapped, IsPartOf, StaysApart}
 use Rattle.move_journal.specs.Journal.{IsJournal}
 use Rattle.move_journal.specs.Reading.{StandsIn}
 use Rattle.move_journal.specs.declared.journal.Journal.{Journal}
@@ -26,8 +26,8 @@ use Rattle.vault_spec.specs.Plan.{Planned}
 use Rattle.vault_spec.specs.Opened.{OpenedVault}
 use Rattle.vault_spec.specs.Vault.{format_of, IsVault}
 use Rattle.vault_walk.specs.Digest.{plan_digest}
-use Rattle.content_writing.specs.Making.{is_inside}
-use Rattle.content_writing.specs.Trees.{ShowsVault}
+use Rattle.item_making.specs.Making.{is_inside}
+use Rattle.item_making.specs.Trees.{ShowsVault}
 use Rattle.folder_spec.specs.Apart.{AreSeparate}
 use Rattle.work_folder.specs.Entries.{journal_path, stage_path, is_foreign}
 

@@ -3,15 +3,15 @@ use Rattle.std.specs.Prelude.{◌≡◌, ℕ, List, [], ◌∷◌, ◌++◌, Som
 use Rattle.folder_spec.specs.Event.{Told}
 use Rattle.folder_spec.specs.State.{IsSound}
 use Rattle.folder_spec.specs.View.{View}
-use Rattle.mapped_trees.specs.Trees.{IsMappedItem}
+use Rattle.vault_spec.specs.Mapped.{IsMappedItem}
 use Rattle.plain_tree.specs.Names as plain
-use Rattle.content_writing.specs.Content.{Ending, Whole}
-use Rattle.content_writing.specs.declared.fault.PutFault.{PutFault}
+use Rattle.item_making.specs.Ending.{Ending, Whole}
+use Rattle.item_making.specs.declared.fault.PutFault.{PutFault}
 use Rattle.migration_spec.specs.Guard.{Migration}
 use Rattle.vault_spec.specs.Making.{NewItem}
-use Rattle.content_writing.specs.Making.{Placing, Making}
-use Rattle.content_writing.specs.Placing.{Makes}
-use Rattle.content_writing.specs.Trees.{opens_as}
+use Rattle.item_making.specs.Making.{Placing, Making}
+use Rattle.item_making.specs.Placing.{Makes}
+use Rattle.item_making.specs.Trees.{opens_as}
 
 -- an item with its path
 pub record ItemAt : Type 0 where

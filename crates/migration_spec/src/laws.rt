@@ -1,12 +1,12 @@
 //! Laws of the definitions. Each function does nothing, and its clauses are the laws.
 ghost use Rattle.std.specs.Prelude.{◌≡◌, false, List, Ok, Result, Some};
-ghost use Rattle.content_writing.specs.declared.fault.PutFault.{PutFault};
+ghost use Rattle.item_making.specs.declared.fault.PutFault.{PutFault};
 ghost use Rattle.folder_spec.specs.Event.{Told, Settle, changed};
 ghost use Rattle.folder_spec.specs.Image.{Image, IsImage, state_of};
 ghost use Rattle.folder_spec.specs.Seen.{seen};
 ghost use Rattle.folder_spec.specs.State.{State, IsSound, HasNothingPending};
 ghost use Rattle.folder_spec.specs.View.{view_of};
-ghost use Rattle.mapped_trees.specs.Trees.{AllowsTree, StaysApart};
+ghost use Rattle.vault_spec.specs.Mapped.{AllowsTree, StaysApart};
 ghost use Rattle.migration_spec.specs.Alone.{Progress, Unbegun, Begun, Finished, IsIn, IsAlone, StaysGuarded, StaysAlone};
 ghost use Rattle.migration_spec.specs.Guard.{Migration, Guarded, IsGuarded, IsSafe, IsSeparate, IsNotBegun, IsWork, HoldsAll, Tells, kinds_in};
 ghost use Rattle.migration_spec.specs.Placed.{ItemAt, Places, PlaceEach};

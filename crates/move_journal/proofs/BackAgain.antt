@@ -8,7 +8,7 @@ use Rattle.hex.specs.Hex.{encode_lower, decode_sized, lower_digits}
 use Rattle.hex.proofs.HexLemmas.{length-encode_with}
 use Rattle.folder_spec.specs.Path.{Path}
 use Rattle.folder_spec.specs.View.{FileOf, View}
-use Rattle.folder_model.specs.Text.{is_plain_byte, is_plain_part, text_of, parts_of}
+use Rattle.folder_model.specs.Text.{IsParsed, is_plain_byte, is_plain_part, parts_of, text_of}
 use Rattle.plain_tree.specs.declared.name_map.NameMap.{NameMap}
 use Rattle.plain_tree.specs.declared.name_map.NameMap.TheVariants.{Same, Nfc}
 use Rattle.move_journal.specs.declared.journal.Form.{Form}
@@ -18,7 +18,7 @@ use Rattle.move_journal.specs.declared.journal.JournalFault.{JournalFault}
 use Rattle.move_journal.specs.declared.journal.JournalFault.TheVariants.{NoJournal, BadJournal, TooLarge, Failed, NoMemory}
 use Rattle.move_journal.specs.declared.journal.Phase.{Phase}
 use Rattle.move_journal.specs.declared.journal.Phase.TheVariants.{Building, Done}
-use Rattle.move_journal.specs.Journal.{IsParsed, IsDigest, IsJournal, IsTextOf, InFirst, InSecond, phase_line, names_line, from_line, to_line, items_line, plan_line, lines_of, line_count, ended, text_in}
+use Rattle.move_journal.specs.Journal.{IsDigest, IsJournal, IsTextOf, InFirst, InSecond, phase_line, names_line, from_line, to_line, items_line, plan_line, lines_of, line_count, ended, text_in}
 use Rattle.move_journal.specs.Lines.{has_no_newline}
 use Rattle.move_journal.specs.Reading.{ReadsAs, StandsIn, file_bytes, journal_bytes}
 use Rattle.move_journal.specs.Writing.{GivesBack}

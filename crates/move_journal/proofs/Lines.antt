@@ -5,7 +5,7 @@ use Rattle.std.proofs.lemmas.Str.{IsUtf8-from_ascii}
 use Rattle.std.proofs.lemmas.Str.Ascii.{IsAscii-cons, IsAscii-nil}
 use Rattle.hex.specs.Hex.{encode_lower, IsBytes}
 use Rattle.folder_spec.specs.Path.{Path}
-use Rattle.folder_model.specs.Text.{text_of}
+use Rattle.folder_model.specs.Text.{IsParsed, text_of}
 use Rattle.plain_tree.specs.declared.name_map.NameMap.{NameMap}
 use Rattle.plain_tree.specs.declared.name_map.NameMap.TheVariants.{Same, Nfc}
 use Rattle.move_journal.specs.declared.journal.Form.{Form}
@@ -13,7 +13,7 @@ use Rattle.move_journal.specs.declared.journal.Form.TheVariants.{First, Second}
 use Rattle.move_journal.specs.declared.journal.Journal.{Journal}
 use Rattle.move_journal.specs.declared.journal.Phase.{Phase}
 use Rattle.move_journal.specs.declared.journal.Phase.TheVariants.{Building, Done}
-use Rattle.move_journal.specs.Journal.{IsParsed, IsDigest, IsJournal, IsTextOf, InFirst, InSecond, title, phase_line, names_line, from_line, to_line, items_line, plan_line, lines_of, line_count}
+use Rattle.move_journal.specs.Journal.{IsDigest, IsJournal, IsTextOf, InFirst, InSecond, title, phase_line, names_line, from_line, to_line, items_line, plan_line, lines_of, line_count}
 use Rattle.move_journal.specs.Lines.{IsLine, Leaves, at_start, after_line, BeginsWithNoLine, IsBadLine, Behind}
 use Rattle.move_journal.specs.Parsing.{TellsNames, in_form}
 use Rattle.move_journal.proofs.Values.{IsPathText, IsItemsText, IsPlanText}

@@ -12,8 +12,8 @@ use Rattle.std.proofs.lemmas.Str.{IsUtf8-from_ascii}
 use Rattle.hex.specs.Hex.{encode_lower, encode_with, lower_digits, hex_digit_value, decode_sized, IsBytes}
 use Rattle.hex.proofs.HexLemmas.{IsDigits-lower_digits, decode_sized-encode_lower}
 use Rattle.folder_spec.specs.Path.{Path}
-use Rattle.folder_model.specs.Text.{is_plain_byte, is_plain_part, is_path_text, parts_of, text_of}
-use Rattle.move_journal.specs.Journal.{IsParsed, IsDigest}
+use Rattle.folder_model.specs.Text.{IsParsed, is_path_text, is_plain_byte, is_plain_part, parts_of, text_of}
+use Rattle.move_journal.specs.Journal.{IsDigest}
 use Rattle.move_journal.specs.Lines.{has_no_newline}
 
 -- what comes after one front is one

@@ -1,10 +1,9 @@
 -- The journal of a migration, and its text: lines, each ended by one newline byte. It is written in the second form, of seven lines. The
 -- first form, of six, has no line for the rule for names, and is read as the text of a migration whose names stay as they are.
 use Rattle.std.specs.Prelude.{◌≡◌, ◌≤◌, ℕ, List, [], ◌∷◌, ◌++◌, length, codes, decimal, IsTrue}
-use Rattle.std.specs.Str.{IsUtf8}
 use Rattle.hex.specs.Hex.{encode_lower, IsBytes}
 use Rattle.folder_spec.specs.Path.{Path}
-use Rattle.folder_model.specs.Text.{is_path_text, parts_of, text_of}
+use Rattle.folder_model.specs.Text.{IsParsed, text_of}
 use Rattle.plain_tree.specs.declared.name_map.NameMap.{NameMap}
 use Rattle.plain_tree.specs.declared.name_map.NameMap.TheVariants.{Same, Nfc}
 use Rattle.move_journal.specs.declared.journal.Form.{Form}
@@ -12,13 +11,6 @@ use Rattle.move_journal.specs.declared.journal.Form.TheVariants.{First, Second}
 use Rattle.move_journal.specs.declared.journal.Journal.{Journal}
 use Rattle.move_journal.specs.declared.journal.Phase.{Phase}
 use Rattle.move_journal.specs.declared.journal.Phase.TheVariants.{Building, Done}
-
--- a path that some text gives
-pub record IsParsed (path : Path) : Type 0 where
-  pub text : List ℕ
-  pub utf8 : IsUtf8 text
-  pub fits : IsTrue (is_path_text text)
-  pub is : path ≡ parts_of text
 
 -- a digest of 32 bytes
 pub record IsDigest (digest : List ℕ) : Type 0 where

@@ -2,8 +2,8 @@
 ghost use Rattle.std.specs.Prelude.{◌≡◌, ◌≢◌, ◌<◌, ◌≤◌, ℕ, List, ◌∷◌, ◌++◌, length, slice_index, IfOk, MatchOption, IsTrue, decimal};
 ghost use Rattle.hex.specs.Hex.{encode_lower};
 ghost use Rattle.folder_spec.specs.Path.{Path};
-ghost use Rattle.folder_model.specs.Text.{text_of};
-ghost use Rattle.move_journal.specs.Journal.{IsParsed, IsDigest};
+ghost use Rattle.folder_model.specs.Text.{IsParsed, text_of};
+ghost use Rattle.move_journal.specs.Journal.{IsDigest};
 ghost use Rattle.move_journal.specs.Lines.{has_no_newline};
 
 use folder_model::{FPath, FPathFault};

@@ -1,6 +1,7 @@
 //! Reading the text of a journal.
 ghost use Rattle.std.specs.Prelude.{◌≡◌, ◌≤◌, ◌<◌, ◌++◌, ◌∷◌, IfOk, MatchOption};
-ghost use Rattle.move_journal.specs.Journal.{IsParsed, IsDigest, title, phase_line, names_line, from_line, to_line, items_line, plan_line};
+ghost use Rattle.folder_model.specs.Text.{IsParsed};
+ghost use Rattle.move_journal.specs.Journal.{IsDigest, title, phase_line, names_line, from_line, to_line, items_line, plan_line};
 ghost use Rattle.move_journal.specs.Lines.{BeginsWithNoLine};
 ghost use Rattle.move_journal.specs.Parsing.{ParsesAs, TellsNames, in_form};
 

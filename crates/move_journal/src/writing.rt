@@ -2,7 +2,7 @@
 ghost use Rattle.std.specs.Prelude.{◌≤◌, OnOk};
 ghost use Rattle.folder_spec.specs.Seen.{IfSeen};
 ghost use Rattle.folder_model.specs.Answers.{CountsAbove};
-ghost use Rattle.move_journal.specs.Journal.{IsParsed};
+ghost use Rattle.folder_model.specs.Text.{IsParsed};
 ghost use Rattle.move_journal.specs.Writing.{IsWorkFolder, Writes, HasWritten};
 
 use crate::journal::Journal;

@@ -15,7 +15,7 @@ use Rattle.folder_spec.proofs.Moments.{went_on, went_by_call, went_more, went_to
 use Rattle.folder_spec.proofs.Paths.{begins_or_not, below-append}
 use Rattle.folder_spec.proofs.Regions.{as_before, as_before_on}
 use Rattle.folder_spec.proofs.Tellings.{from_to_more, from_to_on}
-use Rattle.content_writing.specs.Making.{is_apart, is_inside, is_unstaged}
+use Rattle.item_making.specs.Making.{is_apart, is_inside, is_unstaged}
 use Rattle.work_folder.specs.Entries.{stage_path}
 use Rattle.work_folder.specs.Changing.{ChangesAt}
 use Rattle.work_folder.specs.Entering.{EntersAs, IsWorkOrStage, IsLeftOver}

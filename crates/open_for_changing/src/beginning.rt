@@ -10,7 +10,7 @@ ghost use Rattle.open_for_changing.specs.Faults.{of_work};
 ghost use Rattle.open_for_reading.specs.Opening.{IsPhrase, Opens};
 ghost use Rattle.open_for_reading.specs.Refusing.{RefusesPass};
 ghost use Rattle.open_for_changing.specs.Refusing.{RefusesSite, RefusesWork};
-ghost use Rattle.content_writing.specs.Placing.{MayMake};
+ghost use Rattle.item_making.specs.Placing.{MayMake};
 
 use command_answers::{Answer, Limit, Named};
 use command_words::commands::Change;
@@ -18,8 +18,8 @@ use folder_model::{FPath, Folder};
 use folder_spec::laws::roots_show_their_own;
 use open_for_reading::{do_overlap, load, overlapping, read_pass};
 use std::alloc::Global;
-use text_model::Bytes;
 use vault_read::Vault;
+use vault_values::Bytes;
 use work_folder::{Work, WorkFault};
 
 /// An opened vault that is to be changed, and a work folder that is ready.

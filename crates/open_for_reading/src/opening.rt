@@ -13,8 +13,8 @@ ghost use Rattle.vault_spec.specs.Vault.{Loads};
 use command_answers::{Answer, Limit, Named, Refusal};
 use folder_model::{FPath, Folder};
 use std::alloc::Global;
-use text_model::Bytes;
 use vault_read::{LoadFault, SmallFile, Vault, read_small};
+use vault_values::Bytes;
 
 // The most bytes of a passphrase's file.
 const MAX_SIZE: usize = 2_048;

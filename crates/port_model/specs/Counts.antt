@@ -18,3 +18,8 @@ CountRose before after = (before < after) ⊎ (greatest_count ≤ after)
 pub record IsCounted (before after : ℕ) : Type 0 where
   pub grows : before ≤ after
   pub fits : after ≤ greatest_count
+
+-- A call may name an object as its cause: the object's count never falls, and it rose where the object is blamed.
+pub record Blames (blamed : Type 0) (old new : ℕ) : Type 0 where
+  pub grows : old ≤ new
+  pub rose : blamed → CountRose old new

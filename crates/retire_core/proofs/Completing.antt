@@ -11,7 +11,7 @@ use Rattle.folder_spec.specs.declared.Kind.TheVariants as kind
 use Rattle.folder_staging.specs.Removal.{RemovesAs, deepest, from}
 use Rattle.folder_staging.specs.declared.removal.RemovalFault.{RemovalFault}
 use Rattle.folder_staging.specs.declared.removal.RemovalFault.TheVariants as removal
-use Rattle.mapped_trees.specs.Trees.{AllowsTree, HasNoBroken, IsHeldIn, IsMapped, IsWhole, StaysApart}
+use Rattle.vault_spec.specs.Mapped.{AllowsTree, HasNoBroken, IsHeldIn, IsMapped, IsWhole, StaysApart}
 use Rattle.migration_spec.proofs.Entries.{none_foreign, old_free, with_old}
 use Rattle.migration_sides.proofs.Passing.{Any, OnlyBy, apart_met, both_open, both_walked, entries_met, given, if_only, met, only_or, read_back}
 use Rattle.migration_sides.specs.Causes.{TestsApart}
@@ -47,7 +47,7 @@ use Rattle.vault_spec.specs.Vault.{Vault, format_of}
 use Rattle.vault_walk.specs.Survey.{depth_limit}
 use Rattle.vault_walk.specs.Surveyed as walks
 use Rattle.vault_walk.specs.declared.plan.Plan.{Plan}
-use Rattle.content_writing.specs.Making.{is_inside}
+use Rattle.item_making.specs.Making.{is_inside}
 use Rattle.work_folder.specs.Entries.{HasNoForeign, is_foreign, journal_path, new_journal_path, stage_path}
 use Rattle.work_folder.specs.Looking.{TestsEntries}
 use Rattle.work_folder.specs.declared.fault.WorkFault.TheVariants as works

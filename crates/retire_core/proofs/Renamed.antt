@@ -18,7 +18,7 @@ use Rattle.migration_spec.specs.Guard.{Migration, Guarded, IsGuarded, IsRetired,
 use Rattle.vault_spec.specs.Alike.{IsOrderly}
 use Rattle.vault_spec.specs.Findings.{IsClean}
 use Rattle.vault_spec.specs.Vault.{Vault, format_of}
-use Rattle.content_writing.specs.Making.{is_inside}
+use Rattle.item_making.specs.Making.{is_inside}
 use Rattle.work_folder.specs.Entries.{is_foreign, journal_path, stage_path}
 use Rattle.retire_core.proofs.RetiredTables.{found_alike, kinds_in_table, only_table, rest_seen, same_foreign, same_nodes}
 use Rattle.retire_core.specs.Guarding.{IsDoneAtRest, IsRetiredTable, IsRetiring}

@@ -14,7 +14,7 @@ use Rattle.move_journal.specs.declared.journal.Phase.{Phase}
 use Rattle.move_journal.specs.declared.journal.Phase.TheVariants.{Done}
 use Rattle.move_journal.specs.Reading.{StandsIn}
 use Rattle.migration_spec.specs.Guard.{old_path}
-use Rattle.mapped_trees.specs.Trees.{IsHeldIn}
+use Rattle.vault_spec.specs.Mapped.{IsHeldIn}
 use Rattle.plain_tree.specs.declared.name_map.NameMap.{NameMap}
 use Rattle.vault_read.specs.Laws.{HasOwnFolders}
 use Rattle.vault_spec.specs.Opened.{OpenedVault}

@@ -11,13 +11,14 @@ ghost use Rattle.retire_core.specs.Completing.{CanRetire};
 ghost use Rattle.retire_core.specs.declared.fault.RetireFault.{RetireFault};
 ghost use Rattle.retire_core.specs.declared.retiring.Retired.{Retired};
 
-use mapped_trees::laws::mapped_trees_are_held;
 use move_journal::laws::journals_are_read_back;
 use tree_match::laws::{
     mapped_walks_tell_the_mapped_tree, walks_tell_the_tree, what_is_held_opens_the_same,
 };
 use vault_read::laws::roots_have_one_answer;
-use vault_spec::laws::{clean_vaults_are_shallow, entries_of_clean_vaults_are_accounted_for};
+use vault_spec::laws::{
+    clean_vaults_are_shallow, entries_of_clean_vaults_are_accounted_for, mapped_trees_are_held,
+};
 
 /// Below the root of a clean vault that is in good order are only files and directories.
 pub fn clean_vaults_have_only_files_and_directories()

@@ -1,6 +1,6 @@
 //! Calls of move_journal.
 ghost use Rattle.std.specs.Prelude.{IfSome};
-ghost use Rattle.move_journal.specs.Journal.{IsParsed};
+ghost use Rattle.folder_model.specs.Text.{IsParsed};
 
 use crate::faults::journal_fault;
 use crate::folders::say_folder;

@@ -7,8 +7,8 @@ use port_model::MemSink;
 use row_playing::{Stage, Stop};
 use row_words::cut;
 use std::alloc::AllocError;
-use vault_keys::{CmKeys, GoKeys};
 use vault_read::{CmVault, Item, Vault, VaultKeys, cat, enter, find, list};
+use vault_values::{CmKeys, GoKeys};
 
 /// The passphrase of the vaults in rows.
 pub const PASSPHRASE: &[u8] = b"secret";

@@ -2,7 +2,7 @@
 use Rattle.std.proofs.Common.{◌≡◌, ◌≢◌, [], Bool, true, false, Option, Some, None, refl, sym, ap, subst, ◌∙◌, Contains}
 use Rattle.chunk_files.specs.FileOf.{WholeFilesEnd}
 use Rattle.folder_spec.specs.View.{View}
-use Rattle.mapped_trees.specs.Trees.{IsWhole}
+use Rattle.vault_spec.specs.Mapped.{IsWhole}
 use Rattle.plain_tree.specs.Names as plain
 use Rattle.plain_tree.specs.declared.NodeKind.{NodeKind}
 use Rattle.plain_tree.specs.declared.NodeKind.TheVariants as node

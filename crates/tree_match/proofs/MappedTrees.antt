@@ -10,7 +10,7 @@ use Rattle.std.specs.List.{IsDistinct}
 use Rattle.std.specs.declared.cmp.Ordering.TheVariants.{Less}
 use Rattle.folder_spec.specs.Seen.{ShowsFile}
 use Rattle.folder_spec.specs.View.{View}
-use Rattle.mapped_trees.specs.Trees.{IsHeldIn, IsMappedItem, IsPartOf, IsWhole, StaysApart}
+use Rattle.vault_spec.specs.Mapped.{IsHeldIn, IsMappedItem, IsPartOf, IsWhole, StaysApart}
 use Rattle.plain_tree.specs.Mapped.{mapped_path}
 use Rattle.plain_tree.specs.Names as plain
 use Rattle.plain_tree.specs.Order.{path_cmp, path_eq}

@@ -12,8 +12,8 @@ use Rattle.chunk_files.specs.Reading.{Ending, Reading, Whole, Wanting, Faulty}
 use Rattle.folder_spec.specs.Path as folder
 use Rattle.folder_spec.specs.Seen.{ShowsFile}
 use Rattle.folder_spec.specs.View.{View}
-use Rattle.mapped_trees.specs.Plans.{node_of}
-use Rattle.mapped_trees.specs.Trees.{IsWhole}
+use Rattle.vault_spec.specs.PlanOf.{node_of}
+use Rattle.vault_spec.specs.Mapped.{IsWhole}
 use Rattle.plain_tree.specs.Names as plain
 use Rattle.plain_tree.specs.Order.{path_eq}
 use Rattle.plain_tree.specs.declared.NodeKind.{NodeKind}

@@ -9,7 +9,7 @@ use Rattle.chunk_files.specs.Reading.{Ending, Reading, Whole, Wanting, Faulty}
 use Rattle.folder_spec.specs.Path as folder
 use Rattle.folder_spec.specs.Seen.{ShowsFile, under}
 use Rattle.folder_spec.specs.View.{View}
-use Rattle.mapped_trees.specs.Plans as plans
+use Rattle.vault_spec.specs.PlanOf as plans
 use Rattle.plain_tree.specs.Names as plain
 use Rattle.plain_tree.specs.declared.NodeKind.{NodeKind}
 use Rattle.plain_tree.specs.declared.NodeKind.TheVariants as node

@@ -37,9 +37,9 @@ abbrev pub uncompared : Opened → List ℕ → Content
 uncompared s file = record { at = s.at; bytes = s.ahead ++ concat (still s.decoding file).chunks; ending = (still s.decoding file).ending }
 
 -- nothing was read yet of the content file at a path, of a vault with these keys
-pub record IsFresh (vault_keys : Keys) (path : Path) (s : Opened) : Type 0 where
+pub record IsFresh (vault_values : Keys) (path : Path) (s : Opened) : Type 0 where
   pub at : s.at ≡ path
-  pub all : (file : List ℕ) → uncompared s file ≡ content_of path (limited_reading vault_keys file)
+  pub all : (file : List ℕ) → uncompared s file ≡ content_of path (limited_reading vault_values file)
   pub suits : (file : List ℕ) → Suits s.decoding file
 
 -- no byte, and this ending

@@ -2,8 +2,8 @@
 ghost use Rattle.std.specs.Prelude.{◌≡◌, ◌≢◌, [], Contains, List};
 ghost use Rattle.chunk_files.specs.Reading.{Whole};
 ghost use Rattle.folder_spec.specs.View.{View};
-ghost use Rattle.mapped_trees.specs.Plans.{IsPlanOf};
-ghost use Rattle.mapped_trees.specs.Trees.{IsHeldIn, IsMappedItem, IsPartOf, StaysApart};
+ghost use Rattle.vault_spec.specs.PlanOf.{IsPlanOf};
+ghost use Rattle.vault_spec.specs.Mapped.{IsHeldIn, IsMappedItem, IsPartOf, StaysApart};
 ghost use Rattle.plain_tree.specs.Mapped.{mapped_path};
 ghost use Rattle.plain_tree.specs.Names as plain;
 ghost use Rattle.plain_tree.specs.declared.NodeKind.TheVariants.{Dir, File};

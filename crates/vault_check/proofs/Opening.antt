@@ -16,7 +16,7 @@ use Rattle.vault_spec.specs.Alike.{HasFolders}
 use Rattle.vault_spec.specs.Format.{Format}
 use Rattle.vault_spec.specs.Moving.{IsStray, StraysGoAlone, AreStrays, HasOwnFolders, cut}
 use Rattle.vault_spec.specs.Reached.{HaveOwnFolders}
-use Rattle.vault_keys.specs.declared.keys.GoKeys.{GoKeys}
+use Rattle.vault_values.specs.declared.keys.GoKeys.{GoKeys}
 use Rattle.vault_spec.specs.Gocryptfs.{go_format}
 use Rattle.vault_spec.specs.Vault.{Vault, Gocryptfs, Cryptomator, format_of}
 use Rattle.vault_read.specs.Laws as read

@@ -14,12 +14,13 @@ use Rattle.vault_faults.specs.declared.fault.CatFault.TheVariants as cats
 use Rattle.vault_faults.specs.declared.fault.Limit.TheVariants.{Depth, Items, Input, Length}
 use Rattle.vault_read.specs.Contents.{Reader, Suits, Passes, Stops, IsBeingRead, still}
 use Rattle.vault_read.specs.Contents as read
-use Rattle.content_writing.specs.Content.{Coming, Whole, Damaged, TooLong, ends, bytes_before, IsTold, Steps, Gives}
+use Rattle.item_making.specs.Ending.{Whole, Damaged, TooLong}
+use Rattle.content_writing.specs.Content.{Coming, ends, bytes_before, IsTold, Steps, Gives}
 use Rattle.vault_contents.specs.Coming.{ending_of, held_before, suits, fitting, coming_read}
-use Rattle.content_writing.specs.Faults.{of_cat}
+use Rattle.item_making.specs.Faults.{of_cat}
 use Rattle.vault_contents.specs.Refilling.{Refills}
-use Rattle.content_writing.specs.declared.fault.PutFault.{PutFault}
-use Rattle.content_writing.specs.declared.fault.PutFault.TheVariants as puts
+use Rattle.item_making.specs.declared.fault.PutFault.{PutFault}
+use Rattle.item_making.specs.declared.fault.PutFault.TheVariants as puts
 
 -- ---- a chunk is read
 

@@ -7,7 +7,8 @@ use Rattle.chunk_files.specs.Reading as reading
 use Rattle.folder_spec.specs.Path.{Path}
 use Rattle.folder_spec.specs.View.{Found, NoEntry, Folder, FileOf, Special}
 use Rattle.vault_faults.specs.declared.fault.Limit.TheVariants.{Length}
-use Rattle.content_writing.specs.Content.{Coming, Ending, Whole, Damaged, TooLong}
+use Rattle.item_making.specs.Ending.{Ending, Whole, Damaged, TooLong}
+use Rattle.content_writing.specs.Content.{Coming}
 use Rattle.vault_read.specs.Contents.{Reader, still}
 
 -- how the reading of the file at a path ends

@@ -1,8 +1,9 @@
 -- Words of private contracts: a chunk of a file of a vault is read, of which the bytes are given piece by piece.
 use Rattle.std.specs.Prelude.{◌≡◌, List, ℕ, [], Result, Ok, Err}
-use Rattle.content_writing.specs.Content.{Coming, Whole, Damaged, TooLong, ends}
-use Rattle.content_writing.specs.declared.fault.PutFault.{PutFault}
-use Rattle.content_writing.specs.declared.fault.PutFault.TheVariants as puts
+use Rattle.item_making.specs.Ending.{Whole, Damaged, TooLong}
+use Rattle.content_writing.specs.Content.{Coming, ends}
+use Rattle.item_making.specs.declared.fault.PutFault.{PutFault}
+use Rattle.item_making.specs.declared.fault.PutFault.TheVariants as puts
 
 -- a fault that reading a file of a vault may have
 abbrev pub IsReadingFault : PutFault → Type 0

@@ -7,7 +7,7 @@ use Rattle.aes_lanes.specs.Laws.Cipher.{length-aes}
 use Rattle.base64.specs.Engines.{url_safe}
 use Rattle.base64.specs.GeneralPurpose.{IsBytes, decode_of}
 use Rattle.base64.proofs.EngineFacts.{decode_of-encode_of}
-use Rattle.vault_keys.specs.declared.keys.CmKeys.{CmKeys}
+use Rattle.vault_values.specs.declared.keys.CmKeys.{CmKeys}
 use Rattle.plain_tree.specs.Names.{is_name}
 use Rattle.siv_mode.specs.Siv.{AreImages}
 use Rattle.vault_names.specs.Cryptomator.{cm_text, siv_under, padded_base64url, IsCmTextOf}

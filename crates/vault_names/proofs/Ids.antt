@@ -4,7 +4,7 @@ use Rattle.std.specs.List.{list_all}
 use Rattle.std.proofs.lemmas.Bool.{and_from}
 use Rattle.std.proofs.lemmas.Bool.Decides.{nat_tests}
 use Rattle.std.proofs.lemmas.List.Folds.{list_all-append}
-use Rattle.vault_keys.specs.Id.{id_of}
+use Rattle.vault_values.specs.Id.{id_of}
 use Rattle.uuid.specs.Text.{by_index, hex_digit, is_hyphen_place, nibble, digit_place, lower}
 use Rattle.uuid.proofs.TextLemmas.{by_index_length, nibble_small}
 use Rattle.vault_names.specs.Cryptomator.{is_id_character}

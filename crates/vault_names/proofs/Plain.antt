@@ -13,7 +13,7 @@ use Rattle.base64.specs.Rfc4648.{encode_symbols, padding_len}
 use Rattle.json_fields.specs.Base64.{is_base64url}
 use Rattle.vault_names.specs.Gocryptfs.{base64url}
 use Rattle.vault_names.specs.Cryptomator.{cm_folder_of, cm_long_name, cm_text, siv_under, padded_base64url, is_padded_base64url, IsPlainUpTo}
-use Rattle.vault_keys.specs.declared.keys.CmKeys.{CmKeys}
+use Rattle.vault_values.specs.declared.keys.CmKeys.{CmKeys}
 use Rattle.vault_names.specs.Base32.{is_base32}
 use Rattle.vault_names.proofs.Blocks.{IsBytes-append}
 use Rattle.vault_names.proofs.Groups.{characters-base32, length-base32}

@@ -5,7 +5,7 @@ use Rattle.std.specs.List.{list_all}
 use Rattle.aes_lanes.specs.Cipher.{aes256}
 use Rattle.base64.specs.Engines.{url_safe}
 use Rattle.base64.specs.GeneralPurpose.{encode_of}
-use Rattle.vault_keys.specs.declared.keys.CmKeys.{CmKeys}
+use Rattle.vault_values.specs.declared.keys.CmKeys.{CmKeys}
 use Rattle.json_fields.specs.Base64.{is_base64url}
 use Rattle.sha1.specs.Sha1.{sha1}
 use Rattle.siv_mode.specs.Keys.{Keys}

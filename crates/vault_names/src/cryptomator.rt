@@ -1,7 +1,7 @@
 //! Stored names of Cryptomator, vault format 8: SIV over AES-256, in base64url with padding.
 ghost use Rattle.std.specs.Prelude.{◌≡◌, ◌≢◌, ◌++◌, ℕ, List, false, codes, IfOk, OnErr, IsTrue, MatchOption, Err, string_bytes};
 ghost use Rattle.aes_lanes.specs.Bytes.{AreBytes};
-ghost use Rattle.vault_keys.specs.Id.{id_of};
+ghost use Rattle.vault_values.specs.Id.{id_of};
 ghost use Rattle.plain_tree.specs.Names.{is_name};
 ghost use Rattle.vault_names.specs.Cryptomator.{cm_entry_of, cm_text, cm_long_name, cm_stored, cm_folder_of, keys_of, padded_base64url, IsCmTextOf};
 
@@ -16,8 +16,7 @@ use siv_mode::laws::{opens_to_one_text, sealed_texts_are_bytes, unsealing_undoes
 use siv_mode::{Siv, SivFault};
 use std::alloc::{AllocError, Global};
 use std::marker::Model;
-use text_model::Text;
-use vault_keys::{CmKeys, id_text};
+use vault_values::{CmKeys, Text, id_text};
 
 /// The keys of a Cryptomator vault's names, expanded for many names. Contracts see them as the vault's keys.
 #[derive(Drop)]
@@ -26,7 +25,7 @@ pub struct CmNameKeys {
 }
 
 impl Model for CmNameKeys {
-    ghost use Rattle.vault_keys.specs.declared.keys.CmKeys.{CmKeys};
+    ghost use Rattle.vault_values.specs.declared.keys.CmKeys.{CmKeys};
     ghost use Rattle.vault_names.specs.Cryptomator.{keys_of};
 
     ghost Value = { CmKeys };

@@ -1,6 +1,6 @@
 //! What is stored of a name.
 use std::alloc::AllocError;
-use text_model::Text;
+use vault_values::Text;
 
 /// What is stored of a name: the entry's name and, for a long name, the text of its long-name file.
 #[derive(PartialEq, Eq, Drop)]

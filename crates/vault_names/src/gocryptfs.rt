@@ -14,8 +14,7 @@ use plain_tree::{Name, NameNewFault};
 use sha2::{Digest, Sha256};
 use std::alloc::{AllocError, Global};
 use std::marker::Model;
-use text_model::Text;
-use vault_keys::GoKeys;
+use vault_values::{GoKeys, Text};
 
 /// The greatest length of a text that is an entry's name, in characters.
 pub const MAX_ENTRY_SIZE: usize = 255;

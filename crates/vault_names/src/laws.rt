@@ -2,8 +2,8 @@
 ghost use Rattle.std.specs.Prelude.{◌≡◌, ℕ, ◌+◌, ◌*◌, ◌/◌, List, length, take, drop, codes, IsTrue};
 ghost use Rattle.std.specs.List.{list_all};
 ghost use Rattle.aes_lanes.specs.Bytes.{AreBytes, IsBlock};
-ghost use Rattle.vault_keys.specs.Id.{id_of};
-ghost use Rattle.vault_keys.specs.declared.keys.CmKeys.{CmKeys};
+ghost use Rattle.vault_values.specs.Id.{id_of};
+ghost use Rattle.vault_values.specs.declared.keys.CmKeys.{CmKeys};
 ghost use Rattle.plain_tree.specs.Names.{is_name};
 ghost use Rattle.json_fields.specs.Base64.{is_base64url};
 ghost use Rattle.vault_names.specs.Base32.{is_base32};

@@ -3,14 +3,14 @@ use Rattle.std.proofs.Common.{◌≡◌, ℕ, Bool, true, false, not, ◌&&◌, 
 use Rattle.cryptomator_conf.specs.declared.conf.MasterFile.{MasterFile}
 use Rattle.cryptomator_conf.specs.declared.conf.VaultFile.{VaultFile}
 use Rattle.cryptomator_conf.specs.declared.fault.CmConfFault.{CmConfFault}
-use Rattle.vault_keys.specs.declared.keys.CmKeys.{CmKeys}
+use Rattle.vault_values.specs.declared.keys.CmKeys.{CmKeys}
 use Rattle.cryptomator_conf.specs.Laws as cm
 use Rattle.cryptomator_conf.specs.Vault.{vault_in}
 use Rattle.folder_spec.specs.Path.{Path}
 use Rattle.folder_spec.specs.View.{Found, NoEntry, Folder, FileOf, Special, View}
 use Rattle.gocrypt_conf.specs.declared.conf.GoConf.{GoConf}
 use Rattle.gocrypt_conf.specs.declared.fault.GoConfFault.{GoConfFault}
-use Rattle.vault_keys.specs.declared.keys.GoKeys.{GoKeys}
+use Rattle.vault_values.specs.declared.keys.GoKeys.{GoKeys}
 use Rattle.gocrypt_conf.specs.Laws as go
 use Rattle.vault_spec.specs.Format.{is_file}
 use Rattle.vault_spec.specs.Vault.{Answer, Either, OfFile, UnlocksGo, TestsGo, LoadsGo, Signs, UnlocksCm, TestsCm, LoadsCm, LoadsFrom, Loads, Gocryptfs, go_conf, master_file, vault_file, TooLarge, GoRefused, CmRefused}

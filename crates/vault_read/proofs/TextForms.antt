@@ -10,7 +10,7 @@ use Rattle.std.proofs.lemmas.List.Folds.{list_all-append}
 use Rattle.std.proofs.lemmas.Slice.Eq.{bytes_eq-Decides}
 use Rattle.std.proofs.lemmas.Str.{IsUtf8-from_ascii}
 use Rattle.aes_lanes.specs.Bytes.{AreBytes, IsBlock}
-use Rattle.vault_keys.specs.declared.keys.GoKeys.{GoKeys}
+use Rattle.vault_values.specs.declared.keys.GoKeys.{GoKeys}
 use Rattle.json_fields.specs.Base64.{is_base64url}
 use Rattle.plain_tree.specs.Names.{is_name, is_name_byte, is_dots}
 use Rattle.vault_names.specs.Cryptomator.{cm_text, cm_long_name, cm_entry_of, cm_stored, IsCmTextOf, IsPlainUpTo, is_padded_base64url}

@@ -17,9 +17,9 @@ use crate::vault::Vault;
 use folder_model::{FPath, Folder};
 use plain_tree::{Name, NodeKind, PlainPath};
 use std::alloc::{AllocError, Global};
-use text_model::Bytes;
 use vault_faults::FindFault;
 use vault_spec::Lack;
+use vault_values::Bytes;
 
 /// A file or directory of a vault, and its path in the folder: the vault's root for the root, the entry for another directory,
 /// and for a file the file of its content.

@@ -27,7 +27,6 @@ use folder_spec::FolderFault;
 use plain_tree::{Name, NodeKind, PlainPath};
 use std::alloc::{AllocError, Global};
 use std::marker::Model;
-use text_model::Text;
 use vault_faults::FindFault;
 use vault_names::laws::{
     cm_long_names_are_plain, cm_text_has_one_name, cm_texts_are_plain, long_names_are_plain,
@@ -35,6 +34,7 @@ use vault_names::laws::{
 };
 use vault_names::{NameFault, Stored, cm_entry, go_entry};
 use vault_spec::laws::what_is_found_stands;
+use vault_values::Text;
 
 const LONG_START: &str = "gocryptfs.longname.";
 

@@ -22,8 +22,7 @@ use folder_spec::FolderFault;
 use gocrypt_conf as gocryptfs;
 use gocrypt_conf::GoConfFault;
 use std::alloc::Global;
-use text_model::Bytes;
-use vault_keys::CmKeys;
+use vault_values::{Bytes, CmKeys};
 
 // The most bytes of a configuration file.
 const MAX_SIZE: usize = 65_536;

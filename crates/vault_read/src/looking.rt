@@ -8,7 +8,7 @@ ghost use Rattle.vault_read.specs.Looking.{small_file};
 use folder_model::{FPath, Folder, Kind};
 use folder_spec::FolderFault;
 use std::alloc::Global;
-use text_model::Bytes;
+use vault_values::Bytes;
 
 /// What stands where a small file is looked for.
 #[derive(Drop)]

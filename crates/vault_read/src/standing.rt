@@ -19,9 +19,9 @@ use folder_spec::FolderFault;
 use plain_tree::Name;
 use std::alloc::{AllocError, Global};
 use std::marker::Model;
-use text_model::{Bytes, Text};
 use vault_names::Stored;
 use vault_spec::Lack;
+use vault_values::{Bytes, Text};
 
 const KEY_FILE: &str = "gocryptfs.diriv";
 

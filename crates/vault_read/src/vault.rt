@@ -13,9 +13,9 @@ use folder_model::FPath;
 use plain_tree::Name;
 use std::alloc::{AllocError, Global};
 use std::marker::Model;
-use vault_keys::{CmKeys, GoKeys};
 use vault_names::laws::cm_folders_are_plain;
 use vault_names::{CmNameKeys, GoNameKeys, Stored};
+use vault_values::{CmKeys, GoKeys};
 
 /// The formats of vaults.
 #[derive(Clone, Copy, PartialEq, Eq)]
@@ -59,7 +59,7 @@ pub struct GoOpened {
 
 impl Model for GoOpened {
     ghost use Rattle.std.specs.Prelude.{◌≡◌};
-    ghost use Rattle.vault_keys.specs.declared.keys.GoKeys.{GoKeys};
+    ghost use Rattle.vault_values.specs.declared.keys.GoKeys.{GoKeys};
 
     ghost Value = { GoKeys };
 

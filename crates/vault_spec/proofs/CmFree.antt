@@ -1,8 +1,8 @@
 -- In a clean and tidy Cryptomator vault an item's own place is free.
 use Rattle.std.proofs.Common.{◌≡◌, ◌≢◌, ◌⊎◌, ℕ, ◌+◌, ◌*◌, ◌/◌, Bool, true, false, ◌||◌, List, [], cond, refl, sym, ap, ◌∙◌, inl, inr, None, length, codes, arith, bytes_eq, drop}
 use Rattle.std.specs.Option.{option_or}
-use Rattle.vault_keys.specs.Id.{id_of}
-use Rattle.vault_keys.specs.declared.keys.CmKeys.{CmKeys}
+use Rattle.vault_values.specs.Id.{id_of}
+use Rattle.vault_values.specs.declared.keys.CmKeys.{CmKeys}
 use Rattle.folder_spec.specs.Path.{Part, Path, child}
 use Rattle.folder_spec.specs.View.{Found, NoEntry, Folder, FileOf, Special, View}
 use Rattle.vault_names.specs.Cryptomator.{cm_text, cm_long_name, cm_entry_of, cm_stored, cm_folder_of}

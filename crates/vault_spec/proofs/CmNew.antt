@@ -5,7 +5,7 @@ use Rattle.folder_spec.specs.Path.{Part, Path, child, below}
 use Rattle.folder_spec.specs.View.{Found, NoEntry, Folder, FileOf, Special, View}
 use Rattle.folder_spec.specs.Edit.{edited, directory_edit, folder_view}
 use Rattle.plain_tree.specs.Names as plain
-use Rattle.vault_keys.specs.declared.keys.CmKeys.{CmKeys}
+use Rattle.vault_values.specs.declared.keys.CmKeys.{CmKeys}
 use Rattle.vault_names.specs.Cryptomator.{cm_stored, cm_folder_of}
 use Rattle.vault_spec.specs.declared.Finding.{Finding}
 use Rattle.vault_spec.specs.declared.Lack.{Lack}

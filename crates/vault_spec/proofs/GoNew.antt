@@ -4,7 +4,7 @@ use Rattle.std.proofs.lemmas.Slice.Eq.{bytes_eq-Decides}
 use Rattle.folder_spec.specs.Path.{Part, Path, child}
 use Rattle.folder_spec.specs.View.{NoEntry, FileOf, View}
 use Rattle.folder_spec.specs.Edit.{folder_view}
-use Rattle.vault_keys.specs.declared.keys.GoKeys.{GoKeys}
+use Rattle.vault_values.specs.declared.keys.GoKeys.{GoKeys}
 use Rattle.plain_tree.specs.Names.{is_name}
 use Rattle.vault_names.specs.Gocryptfs.{stored}
 use Rattle.vault_names.specs.declared.entry.Stored.{Stored}

@@ -4,7 +4,7 @@ use Rattle.std.proofs.lemmas.List.{append_cancel_right}
 use Rattle.folder_spec.specs.Path.{Path, child}
 use Rattle.folder_spec.specs.View.{Found, NoEntry, Folder, FileOf, Special, View}
 use Rattle.folder_spec.specs.Edit.{Edit, file_edit, folder_edit, view_after}
-use Rattle.vault_keys.specs.declared.keys.GoKeys.{GoKeys}
+use Rattle.vault_values.specs.declared.keys.GoKeys.{GoKeys}
 use Rattle.plain_tree.specs.Names as plain
 use Rattle.vault_names.specs.Gocryptfs.{stored}
 use Rattle.vault_spec.specs.Format.{Directory, Expected, ContentFolder}

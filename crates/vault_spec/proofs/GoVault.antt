@@ -11,7 +11,7 @@ use Rattle.aes_lanes.specs.Bytes.{IsBlock}
 use Rattle.chunk_files.specs.Zeros.{is_all_zero}
 use Rattle.folder_spec.specs.Path.{Path, child, Part}
 use Rattle.folder_spec.specs.View.{Found, NoEntry, Folder, FileOf, Special, View, kind_found}
-use Rattle.vault_keys.specs.declared.keys.GoKeys.{GoKeys}
+use Rattle.vault_values.specs.declared.keys.GoKeys.{GoKeys}
 use Rattle.json_fields.specs.Base64.{is_base64url}
 use Rattle.plain_tree.specs.Names.{is_name}
 use Rattle.vault_names.specs.Gocryptfs.{go_text, long_name, stored, entry_of}

@@ -50,3 +50,5 @@ mod CmFree
 mod GoDepth
 mod CmDepth
 mod Depths
+pub mod MappedHeld
+mod MappedStaying

@@ -12,8 +12,8 @@ use Rattle.std.specs.Str.{bytes_eq}
 use Rattle.chunk_files.specs.Keys.{Keys, cm_ctr_keys, cm_gcm_keys}
 use Rattle.cryptomator_conf.specs.declared.conf.Combo.{Combo}
 use Rattle.cryptomator_conf.specs.declared.conf.Combo.TheVariants.{SivGcm, SivCtrMac}
-use Rattle.vault_keys.specs.declared.keys.CmKeys.{CmKeys}
-use Rattle.vault_keys.specs.Id.{id_of}
+use Rattle.vault_values.specs.declared.keys.CmKeys.{CmKeys}
+use Rattle.vault_values.specs.Id.{id_of}
 use Rattle.folder_spec.specs.Path.{Part, Path, child}
 use Rattle.folder_spec.specs.View.{Found, NoEntry, Folder, FileOf, Special, View}
 use Rattle.folder_spec.specs.Edit.{Edit, file_edit, folder_edit, directory_edit}

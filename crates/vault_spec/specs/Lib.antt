@@ -22,3 +22,5 @@ pub mod Staying
 pub mod Moving
 pub mod Empty
 pub mod Tidy
+pub mod Mapped
+pub mod PlanOf

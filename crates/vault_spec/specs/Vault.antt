@@ -4,7 +4,7 @@ use Rattle.std.specs.Prelude.{◌≡◌, ◌≢◌, ◌⊎◌, ℕ, Bool, true, 
 use Rattle.cryptomator_conf.specs.declared.conf.MasterFile.{MasterFile}
 use Rattle.cryptomator_conf.specs.declared.conf.VaultFile.{VaultFile}
 use Rattle.cryptomator_conf.specs.declared.fault.CmConfFault.{CmConfFault}
-use Rattle.vault_keys.specs.declared.keys.CmKeys.{CmKeys}
+use Rattle.vault_values.specs.declared.keys.CmKeys.{CmKeys}
 use Rattle.cryptomator_conf.specs.Keys.{AreKeys}
 use Rattle.cryptomator_conf.specs.Keys as cryptomator
 use Rattle.cryptomator_conf.specs.Master.{ReadsMaster}
@@ -14,7 +14,7 @@ use Rattle.folder_spec.specs.Path.{Path}
 use Rattle.folder_spec.specs.View.{Found, NoEntry, Folder, FileOf, Special, View}
 use Rattle.gocrypt_conf.specs.declared.conf.GoConf.{GoConf}
 use Rattle.gocrypt_conf.specs.declared.fault.GoConfFault.{GoConfFault}
-use Rattle.vault_keys.specs.declared.keys.GoKeys.{GoKeys}
+use Rattle.vault_values.specs.declared.keys.GoKeys.{GoKeys}
 use Rattle.gocrypt_conf.specs.MasterKey as gocryptfs
 use Rattle.gocrypt_conf.specs.Tests.{ReadsAs}
 use Rattle.vault_spec.specs.Format.{Format, is_file}

@@ -7,7 +7,7 @@ ghost use Rattle.folder_spec.specs.Path as folder;
 ghost use Rattle.folder_spec.specs.Seen.{under};
 ghost use Rattle.folder_spec.specs.View.{View, Folder, NoEntry};
 ghost use Rattle.gocrypt_conf.specs.declared.conf.GoDraw.{GoDraw};
-ghost use Rattle.vault_keys.specs.declared.keys.GoKeys.{GoKeys};
+ghost use Rattle.vault_values.specs.declared.keys.GoKeys.{GoKeys};
 ghost use Rattle.kdf_suite.specs.ScryptCost.{Cost};
 ghost use Rattle.plain_tree.specs.Names.{Path};
 ghost use Rattle.vault_spec.specs.Adding.{NewItemsComeAlone, NewItemsStayClean, ContentsAreReplacedAlone, ReplacedContentsStayClean};
@@ -21,9 +21,11 @@ ghost use Rattle.vault_spec.specs.Findings.{IsClean, Belongs, IsEntryOf};
 ghost use Rattle.vault_spec.specs.Format.{Format, Directory};
 ghost use Rattle.vault_spec.specs.Gocryptfs.{go_format, directory_key};
 ghost use Rattle.vault_spec.specs.Listing.{Listed, AreListed, node_of};
+ghost use Rattle.plain_tree.specs.declared.name_map.NameMap.{NameMap};
+ghost use Rattle.vault_spec.specs.Mapped.{HasNoBroken, IsHeldIn, IsMapped, IsPartOf, IsWhole, StaysApart};
 ghost use Rattle.vault_spec.specs.Moving.{StraysGoAlone};
 ghost use Rattle.vault_spec.specs.NewVault.{new_go_vault, new_cm_vault};
-ghost use Rattle.vault_spec.specs.Opens.{opened, opened_at, tree, AreItems};
+ghost use Rattle.vault_spec.specs.Opens.{NoItem, Tree, opened, opened_at, tree, AreItems};
 ghost use Rattle.vault_spec.specs.Plan.{Planned, IsPlan, paths_of, StandsBelow, IsReachedFrom};
 ghost use Rattle.vault_spec.specs.Reached.{Leads, IsReached, IsReachedIn, HaveOwnFolders};
 ghost use Rattle.vault_spec.specs.Standing.{Standing, File, Dir, standing, standing_in};
@@ -32,6 +34,7 @@ ghost use Rattle.vault_spec.specs.Tidy.{IsTidy, OwnPlacesAreFree, NewItemsStayTi
 ghost use Rattle.vault_spec.specs.Vault.{Vault, format_of};
 ghost use Rattle.vault_spec.specs.declared.Lack.{Lack};
 
+use plain_tree::laws::same_names_stay;
 use vault_names::laws::{
     cm_folders_are_plain, cm_long_names_are_plain, cm_text_has_one_name, cm_texts_are_plain,
     long_names_are_plain, text_has_one_name, texts_are_plain,
@@ -306,4 +309,23 @@ pub fn what_stands_is_found_step_by_step()
         → (item : Listed) → Contains items item ↔ (node_of (standing f v (front ++ item.name ∷ [])) ≡ Some item.node) }
     ensures below { (f : Format) (v : View) (path : Path) (at : folder.Path) → path ≢ [] → place_of (standing f v path) ≡ Some at → StandsBelow f v path }
     ensures step { (f : Format) (v : View) (steps : ℕ) (dir : Directory) → IsReachedIn f v (suc steps) dir → IsReachedFrom f v steps dir }
+{}
+
+/// By the rule that names stay, the mapped tree of a tree is that tree, and each item of it is at its own path.
+pub fn trees_stay_by_same()
+    ensures apart { (m : Tree) → StaysApart NameMap.Same m }
+    ensures mapped { (m t : Tree) → IsMapped NameMap.Same m t ↔ ((path : Path) → t path ≡ m path) }
+    ensures part { (m t : Tree) → IsPartOf NameMap.Same t m ↔ ((path : Path) → path ≢ [] → t path ≢ NoItem → (t path ≡ m path) × IsWhole (t path)) }
+    ensures held { (m t : Tree) → IsHeldIn NameMap.Same m t ↔ ((path : Path) → path ≢ [] → m path ≢ NoItem → (t path ≡ m path) × IsWhole (m path)) }
+{
+    same_names_stay();
+}
+
+/// A tree has one mapped tree. A tree without broken files is held in its mapped tree, which is part of it; and a tree that is part of one
+/// that it holds, and has its root, is the mapped tree.
+pub fn mapped_trees_are_held()
+    ensures one { (names : NameMap) (m t u : Tree) → IsMapped names m t → IsMapped names m u → (path : Path) → t path ≡ u path }
+    ensures held { (names : NameMap) (m t : Tree) → IsMapped names m t → HasNoBroken m → IsHeldIn names m t }
+    ensures part { (names : NameMap) (m t : Tree) → IsMapped names m t → HasNoBroken m → IsPartOf names t m }
+    ensures both { (names : NameMap) (m t : Tree) → t [] ≡ m [] → IsHeldIn names m t → IsPartOf names t m → IsMapped names m t }
 {}

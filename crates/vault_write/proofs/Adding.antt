@@ -25,7 +25,7 @@ use Rattle.folder_staging.specs.Pieces.{Stages}
 use Rattle.folder_staging.specs.Places.{IsStage}
 use Rattle.work_folder.specs.Entering.{IsReady}
 use Rattle.work_folder.specs.Entries.{stage_path}
-use Rattle.content_writing.specs.Making.{Making}
+use Rattle.item_making.specs.Making.{Making}
 use Rattle.vault_write.specs.Editing.{Edits, HasEdited, HasFinished, AddsEdits, MayCome}
 use Rattle.vault_write.proofs.Edited.{StagingAt, staging_edits, renamed_edits, renamed_done, made_edits, made_done, settled_edits, settled_done, some_part}
 

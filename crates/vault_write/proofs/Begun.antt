@@ -21,8 +21,8 @@ use Rattle.vault_spec.specs.Reached.{Leads}
 use Rattle.vault_spec.specs.Vault.{format_of}
 use Rattle.work_folder.specs.Entering.{IsReady}
 use Rattle.vault_write.specs.Editing.{HasBegun, MayCome}
-use Rattle.content_writing.specs.Making.{Placing, Making, making_in}
-use Rattle.content_writing.specs.Placing.{MayMake}
+use Rattle.item_making.specs.Making.{Placing, Making, making_in}
+use Rattle.item_making.specs.Placing.{MayMake}
 use Rattle.vault_write.specs.Slots.{IsSlot, placing}
 use Rattle.vault_write.proofs.Edited.{begun}
 use Rattle.vault_write.proofs.Found.{Enters}

@@ -8,7 +8,7 @@ use Rattle.folder_spec.specs.Edit.{directory_edit, edits_under, folder_edit}
 use Rattle.folder_spec.specs.Event.{Told}
 use Rattle.folder_spec.specs.Seen.{seen, under}
 use Rattle.folder_spec.specs.View.{Found, NoEntry, Folder}
-use Rattle.vault_keys.specs.Id.{id_of}
+use Rattle.vault_values.specs.Id.{id_of}
 use Rattle.plain_tree.specs.Names as plain
 use Rattle.plain_tree.specs.Names.{is_name}
 use Rattle.vault_names.specs.Cryptomator.{cm_folder_of}

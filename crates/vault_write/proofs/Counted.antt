@@ -1,9 +1,9 @@
 -- Which faults are answered, and how counts of faults rise.
 use Rattle.std.specs.Prelude.{IfErr}
 use Rattle.std.proofs.Common.{arith, ◌≡◌, ◌≤◌, ℕ, Option, Result, Ok, Err, inl, inr, sym, ◌∙◌, subst}
-use Rattle.content_writing.specs.Faults.{of_folder}
-use Rattle.content_writing.specs.declared.fault.PutFault.{PutFault}
-use Rattle.content_writing.specs.declared.fault.PutFault.TheVariants as puts
+use Rattle.item_making.specs.Faults.{of_folder}
+use Rattle.item_making.specs.declared.fault.PutFault.{PutFault}
+use Rattle.item_making.specs.declared.fault.PutFault.TheVariants as puts
 use Rattle.folder_spec.specs.declared.FolderFault.TheVariants as folder
 use Rattle.port_model.specs.Counts.{CountRose}
 use Rattle.vault_write.specs.Faults.{IsDirectoryFault, IsFileFault, IsPlaceFault}

@@ -8,13 +8,13 @@ use Rattle.std.proofs.Common.{arith, true, false, Bool, nat_lt, nat_le, nat_eq, 
 use Rattle.chunk_files.specs.Keys as contents
 use Rattle.chunk_files.specs.Keys.{Keys}
 use Rattle.chunk_files.specs.Zeros.{is_all_zero}
-use Rattle.content_writing.specs.Content.{Whole}
+use Rattle.item_making.specs.Ending.{Whole}
 use Rattle.content_writing.specs.Writing.{DrewNoZeros, DrewZeros, HasZeros}
 use Rattle.content_writing.proofs.Sixteens.{drawn_so_far}
-use Rattle.content_writing.specs.Faults.{of_folder}
-use Rattle.content_writing.specs.declared.fault.PutFault.{PutFault}
-use Rattle.content_writing.specs.declared.fault.PutFault.TheVariants as puts
-use Rattle.vault_keys.specs.Id.{id_of}
+use Rattle.item_making.specs.Faults.{of_folder}
+use Rattle.item_making.specs.declared.fault.PutFault.{PutFault}
+use Rattle.item_making.specs.declared.fault.PutFault.TheVariants as puts
+use Rattle.vault_values.specs.Id.{id_of}
 use Rattle.folder_spec.specs.declared.FolderFault.{FolderFault}
 use Rattle.folder_spec.specs.Path.{Path, parent}
 use Rattle.folder_spec.proofs.Seen.{seen_of}
@@ -39,8 +39,8 @@ use Rattle.vault_spec.specs.Vault.{Vault, Gocryptfs, Cryptomator, format_of}
 use Rattle.vault_write.specs.Calls.{MakesDirectory, New}
 use Rattle.vault_write.specs.Editing.{Edits, HasFinished, HasBegun, GoPlaces, CmPlaces, go_making, cm_making}
 use Rattle.vault_write.specs.Founding.{SomeDrew, DrawsSome}
-use Rattle.content_writing.specs.Making.{Placing, Making, format}
-use Rattle.content_writing.specs.Placing.{MayMake}
+use Rattle.item_making.specs.Making.{Placing, Making, format}
+use Rattle.item_making.specs.Placing.{MayMake}
 use Rattle.vault_write.specs.Refusing.{Answers}
 use Rattle.vault_write.specs.Showing.{EditsShowTrees, SettledEditsShowTrees}
 use Rattle.vault_write.specs.Slots.{IsSlot, IsTakenAt, IsShelfTaken, IsHomeTaken, DrewAtMost, PlacesOne, wants_text, placing}

@@ -2,8 +2,8 @@
 use Rattle.std.proofs.Common.{◌≡◌, ◌<◌, ℕ, zero, suc, true, false, List, [], ◌++◌, slice_index, replicate, Option, Result, Ok, Err, IsErrAnd, refl, sym, ap, ◌∙◌, inl, inr, subst, arith, append-nil}
 use Rattle.std.proofs.lemmas.List.{length-replicate}
 use Rattle.chunk_files.specs.Zeros.{is_all_zero}
-use Rattle.content_writing.specs.declared.fault.PutFault.{PutFault}
-use Rattle.content_writing.specs.declared.fault.PutFault.TheVariants as puts
+use Rattle.item_making.specs.declared.fault.PutFault.{PutFault}
+use Rattle.item_making.specs.declared.fault.PutFault.TheVariants as puts
 use Rattle.port_model.specs.Draws.{ByteStream, Draws}
 use Rattle.vault_write.specs.declared.drawing.GoParts.{GoParts}
 use Rattle.vault_write.specs.Founding.{AreBytes, GoDrew, DrawsGo, DrawsCm, SomeDrew, DrawsSome}

@@ -25,7 +25,7 @@ use Rattle.folder_staging.specs.Folders.{IsStagingFolder}
 use Rattle.work_folder.specs.Entries.{stage_path}
 use Rattle.folder_staging.specs.Removal.{IsBare}
 use Rattle.work_folder.specs.Entering.{IsReady, below_stage}
-use Rattle.content_writing.specs.Making.{Making, is_unstaged, is_apart, MayCome, StagesOrPlaces}
+use Rattle.item_making.specs.Making.{Making, is_unstaged, is_apart, MayCome, StagesOrPlaces}
 use Rattle.vault_write.specs.Editing.{IsEditing, Edits, HasEdited, HasFinished}
 use Rattle.vault_write.proofs.Stages.{in_stage, unstaged_below, unstaged_apart, apart_unstaged, apart_root, at_root, root_unstaged, off_root, stage_beside, staged_beside, work_unstaged, stage_unstaged}
 use Rattle.vault_write.proofs.Runs.{went_with, works_in_stage}

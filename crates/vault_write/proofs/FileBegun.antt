@@ -10,7 +10,7 @@ use Rattle.folder_spec.specs.Edit.{Edit, edit_under, edits_under, file_edit, vie
 use Rattle.folder_spec.specs.Event.{Told}
 use Rattle.folder_spec.specs.Seen.{IfSeen, seen, under}
 use Rattle.folder_spec.proofs.Seen.{seen_of}
-use Rattle.vault_keys.specs.declared.keys.GoKeys.{GoKeys}
+use Rattle.vault_values.specs.declared.keys.GoKeys.{GoKeys}
 use Rattle.plain_tree.specs.Names as plain
 use Rattle.plain_tree.specs.Names.{is_name}
 use Rattle.vault_read.specs.Laws.{KeepsVaults}
@@ -32,12 +32,12 @@ use Rattle.vault_spec.specs.Standing.{entry_at}
 use Rattle.vault_spec.specs.Vault.{Vault, Gocryptfs, Cryptomator, format_of}
 use Rattle.vault_write.specs.Editing.{GoPlaces, MayCome, side_edits}
 use Rattle.vault_write.specs.Filing.{entry_edit}
-use Rattle.content_writing.specs.Making.{Placing, Making, format, making_in, new_item, path_of}
-use Rattle.content_writing.specs.Placing.{MayMake, making_at}
+use Rattle.item_making.specs.Making.{Placing, Making, format, making_in, new_item, path_of}
+use Rattle.item_making.specs.Placing.{MayMake, making_at}
 use Rattle.vault_write.specs.Refusing.{HasTaken}
 use Rattle.vault_write.specs.Showing.{MakesAlone}
 use Rattle.vault_write.specs.Slots.{IsSlot, placing, wants_text}
-use Rattle.content_writing.specs.Trees.{opens_as}
+use Rattle.item_making.specs.Trees.{opens_as}
 use Rattle.vault_write.proofs.Begun.{FoldersStand, all_are, entry_comes, folders_seen, same_making}
 use Rattle.vault_write.proofs.Found.{Enters, go_free}
 use Rattle.vault_write.proofs.GoBegun.{go_places, sides_under}

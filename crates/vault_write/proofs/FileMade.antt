@@ -32,17 +32,18 @@ use Rattle.vault_spec.specs.Making as making
 use Rattle.vault_spec.specs.Making.{NewFile, full_texts}
 use Rattle.vault_spec.specs.Opens.{Opened, opened_file}
 use Rattle.vault_spec.specs.Vault.{format_of}
-use Rattle.content_writing.specs.Content.{Coming, Ending, IsReady, still_coming}
-use Rattle.content_writing.specs.Faults.{of_folder}
+use Rattle.item_making.specs.Ending.{Ending}
+use Rattle.content_writing.specs.Content.{Coming, IsReady, still_coming}
+use Rattle.item_making.specs.Faults.{of_folder}
 use Rattle.content_writing.specs.Writing.{DrewNoZeros}
-use Rattle.content_writing.specs.declared.fault.PutFault.{PutFault}
-use Rattle.content_writing.specs.declared.fault.PutFault.TheVariants as puts
+use Rattle.item_making.specs.declared.fault.PutFault.{PutFault}
+use Rattle.item_making.specs.declared.fault.PutFault.TheVariants as puts
 use Rattle.vault_write.specs.Calls.{AnswersBy, How, InPlace, IsOfMaking, MakesFile, MakesOne, New, ReadsElsewhere, Writing}
 use Rattle.vault_write.specs.Editing.{AddsEdits, Edits, HasBegun, HasEdited, HasFinished, IsEditing, MayCome, SeesSome, side_edits}
 use Rattle.vault_write.specs.Faults.{IsFileFault}
 use Rattle.vault_write.specs.Filing.{DoesLast, IsWhole, OnlyStages, PlacesEntry, PlacesBy, PlacesFile, StopsBy, entry_edit, entry_files}
-use Rattle.content_writing.specs.Making.{Placing, Making, format, path_of, new_item, is_unstaged, StagesOrPlaces}
-use Rattle.content_writing.specs.Placing.{IsMaking, MayMake, making_at}
+use Rattle.item_making.specs.Making.{Placing, Making, format, path_of, new_item, is_unstaged, StagesOrPlaces}
+use Rattle.item_making.specs.Placing.{IsMaking, MayMake, making_at}
 use Rattle.vault_write.specs.Refusing.{Answers, HasTaken}
 use Rattle.vault_write.specs.Showing.{EditsShowTrees, EditsBeforeTheLastKeepTrees, SettledEditsShowTrees}
 use Rattle.vault_write.specs.Slots.{placing, wants_text}

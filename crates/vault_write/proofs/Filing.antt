@@ -27,17 +27,18 @@ use Rattle.folder_staging.specs.Folders.{BeginsFolder, IsStagingFolder, StagesFo
 use Rattle.folder_staging.specs.Pieces.{Stages}
 use Rattle.work_folder.specs.Entries.{stage_path}
 use Rattle.vault_spec.specs.Cryptomator.{content_file, full_file}
-use Rattle.content_writing.specs.Content.{Coming, Whole, Gave, IsReady, ends, still_coming}
-use Rattle.content_writing.specs.Faults.{of_folder}
+use Rattle.item_making.specs.Ending.{Whole}
+use Rattle.content_writing.specs.Content.{Coming, Gave, IsReady, ends, still_coming}
+use Rattle.item_making.specs.Faults.{of_folder}
 use Rattle.content_writing.specs.Writing.{DrewNoZeros, EndsBy, ReadsApart, WritesContent}
 use Rattle.content_writing.proofs.Sixteens.{drawn_so_far}
 use Rattle.content_writing.proofs.Standing.{IsStill, ready_now, still_same}
-use Rattle.content_writing.specs.declared.fault.PutFault.{PutFault}
-use Rattle.content_writing.specs.declared.fault.PutFault.TheVariants as puts
+use Rattle.item_making.specs.declared.fault.PutFault.{PutFault}
+use Rattle.item_making.specs.declared.fault.PutFault.TheVariants as puts
 use Rattle.vault_write.specs.Calls.{ReadsElsewhere, TakesContent, Writing}
 use Rattle.vault_write.specs.Editing.{AddsEdits, AddsName, HasEdited, MayCome}
 use Rattle.vault_write.specs.Filing.{DoesLast, IsWhole, OnlyStages, PlacesEntry, PublishesEntry, StagesEntry, StopsBy, entry_edit, entry_files, entry_view, file_of}
-use Rattle.content_writing.specs.Making.{Making, is_inside, is_unstaged}
+use Rattle.item_making.specs.Making.{Making, is_inside, is_unstaged}
 use Rattle.vault_write.proofs.Adding.{adds_nothing, adds_renamed, adds_staging, file_staged, file_staging, finishes, IsStagedWhole, renames_allowed, staged_below}
 use Rattle.vault_write.proofs.Directories.{Are, AreSeen, Gain, gains, name_place, whole_staged}
 use Rattle.vault_write.proofs.Edited.{StagingAt}

@@ -9,15 +9,15 @@ use Rattle.plain_tree.specs.Names as plain
 use Rattle.vault_read.specs.Finding.{IsDirPlace, Refuses}
 use Rattle.vault_faults.specs.declared.fault.FindFault.{FindFault}
 use Rattle.vault_faults.specs.declared.fault.FindFault.TheVariants as finds
-use Rattle.content_writing.specs.Faults.{of_find}
+use Rattle.item_making.specs.Faults.{of_find}
 use Rattle.vault_spec.specs.Opened.{OpenedVault}
 use Rattle.vault_read.specs.Opened.{kind_of}
 use Rattle.vault_read.specs.declared.vault.VaultKind.TheVariants as kind
 use Rattle.vault_read.specs.declared.finding.DirPlace.{DirPlace}
 use Rattle.vault_spec.specs.Find.{enter}
 use Rattle.vault_spec.specs.Format.{Format, Directory, taken_at}
-use Rattle.vault_keys.specs.Id.{id_of}
-use Rattle.vault_keys.specs.declared.keys.GoKeys.{GoKeys}
+use Rattle.vault_values.specs.Id.{id_of}
+use Rattle.vault_values.specs.declared.keys.GoKeys.{GoKeys}
 use Rattle.vault_names.specs.Cryptomator.{cm_folder_of}
 use Rattle.vault_spec.specs.Cryptomator.{cm_format, taken_folders}
 use Rattle.vault_spec.specs.Gocryptfs.{full_name, go_format, go_taken, taken_unless}
@@ -25,10 +25,10 @@ use Rattle.vault_spec.specs.Making.{NewItem, NewDirectory, NewFile, Allows, take
 use Rattle.vault_spec.specs.Reached.{Leads}
 use Rattle.vault_spec.specs.Standing.{entry_at}
 use Rattle.vault_spec.specs.Vault.{Vault, Gocryptfs, Cryptomator, format_of}
-use Rattle.content_writing.specs.declared.fault.PutFault.{PutFault}
-use Rattle.content_writing.specs.declared.fault.PutFault.TheVariants as puts
-use Rattle.content_writing.specs.Content.{Ending}
-use Rattle.content_writing.specs.Making.{Placing}
+use Rattle.item_making.specs.declared.fault.PutFault.{PutFault}
+use Rattle.item_making.specs.declared.fault.PutFault.TheVariants as puts
+use Rattle.item_making.specs.Ending.{Ending}
+use Rattle.item_making.specs.Making.{Placing}
 use Rattle.vault_write.specs.Refusing.{Answers}
 use Rattle.vault_write.specs.Slots.{IsSlot, IsTakenAt, IsSideTaken, RefusesItem, placing}
 

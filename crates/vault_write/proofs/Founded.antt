@@ -23,7 +23,7 @@ use Rattle.folder_spec.proofs.Written.{fronts_of_none}
 use Rattle.folder_staging.specs.Folders.{IsStagingFolder, StagesFolder, HasStaged, MayPublishFolder, IsPublishingFolder, PublishingFolder, HasPlacedFolder, PlacesFolder}
 use Rattle.work_folder.specs.Entries.{stage_path}
 use Rattle.work_folder.specs.Entering.{IsReady}
-use Rattle.content_writing.specs.Making.{is_unstaged, is_apart, StagesOrPlaces}
+use Rattle.item_making.specs.Making.{is_unstaged, is_apart, StagesOrPlaces}
 use Rattle.vault_write.specs.Founding.{MayFound, texts, vault_edit, founding, IsFounding, Founds, StagesWhole}
 use Rattle.vault_write.proofs.Edited.{StagingAt}
 use Rattle.vault_write.proofs.Exits.{at_fault}

@@ -9,7 +9,7 @@ use Rattle.folder_spec.specs.Edit.{edits_under, folder_edit}
 use Rattle.folder_spec.specs.Event.{Told}
 use Rattle.folder_spec.specs.Seen.{seen, under}
 use Rattle.folder_spec.specs.View.{Found, NoEntry, Folder, FileOf, Special, View}
-use Rattle.vault_keys.specs.declared.keys.GoKeys.{GoKeys}
+use Rattle.vault_values.specs.declared.keys.GoKeys.{GoKeys}
 use Rattle.plain_tree.specs.Names as plain
 use Rattle.plain_tree.specs.Names.{is_name}
 use Rattle.vault_read.specs.Laws.{KeepsVaults}

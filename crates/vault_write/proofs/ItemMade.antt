@@ -25,21 +25,21 @@ use Rattle.vault_spec.specs.Opens.{Opened, opened}
 use Rattle.vault_spec.specs.Staying.{StaysVault}
 use Rattle.vault_spec.specs.Tidy.{IsTidy}
 use Rattle.folder_spec.specs.declared.FolderFault.TheVariants as folder
-use Rattle.content_writing.specs.Faults.{of_folder}
-use Rattle.content_writing.specs.Content.{Ending, Whole}
+use Rattle.item_making.specs.Faults.{of_folder}
+use Rattle.item_making.specs.Ending.{Ending, Whole}
 use Rattle.content_writing.specs.Writing.{Blames, DrewNoZeros, DrewZeros}
-use Rattle.content_writing.specs.declared.fault.PutFault.{PutFault}
-use Rattle.content_writing.specs.declared.fault.PutFault.TheVariants as puts
+use Rattle.item_making.specs.declared.fault.PutFault.{PutFault}
+use Rattle.item_making.specs.declared.fault.PutFault.TheVariants as puts
 use Rattle.work_folder.specs.Entering.{IsReady}
 use Rattle.vault_faults.specs.declared.fault.FindFault.TheVariants as finds
 use Rattle.vault_write.specs.Calls.{AnswersBy, AnswersRoot, How, InPlace, IsOfMaking, MakesAt, MakesOne, New, making_by}
 use Rattle.vault_write.specs.Editing.{IsEditing, SeesSome, Edits, HasFinished}
-use Rattle.content_writing.specs.Making.{Placing, Making, format, path_of, new_item, is_unstaged, is_elsewhere, StagesOrPlaces}
-use Rattle.content_writing.specs.Placing.{IsMaking, ShowsNewTree, making_at, EndsAs}
+use Rattle.item_making.specs.Making.{Placing, Making, format, path_of, new_item, is_unstaged, is_elsewhere, StagesOrPlaces}
+use Rattle.item_making.specs.Placing.{IsMaking, ShowsNewTree, making_at, EndsAs}
 use Rattle.vault_write.specs.Refusing.{HasTaken, Answers}
 use Rattle.vault_write.specs.Showing.{MakeItem, MakeItemAt, EditsShowTrees, SettledEditsShowTrees}
 use Rattle.vault_write.specs.Slots.{placing}
-use Rattle.content_writing.specs.Trees.{StaysGood, opens_as}
+use Rattle.item_making.specs.Trees.{StaysGood, opens_as}
 use Rattle.vault_write.proofs.Exits.{unblamed}
 use Rattle.vault_write.proofs.Seeing.{if_seen, seen_both, seen_then}
 use Rattle.vault_write.proofs.Stages.{root_unstaged}

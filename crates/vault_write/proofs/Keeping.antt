@@ -11,9 +11,9 @@ use Rattle.vault_spec.specs.Anywhere.{KeepsEntered}
 use Rattle.vault_spec.specs.Format.{Format}
 use Rattle.vault_spec.specs.Opened.{OpenedVault}
 use Rattle.vault_spec.specs.Vault.{format_of}
-use Rattle.content_writing.specs.Content.{Ending}
-use Rattle.content_writing.specs.Making.{Placing}
-use Rattle.content_writing.specs.declared.fault.PutFault.{PutFault}
+use Rattle.item_making.specs.Ending.{Ending}
+use Rattle.item_making.specs.Making.{Placing}
+use Rattle.item_making.specs.declared.fault.PutFault.{PutFault}
 use Rattle.folder_spec.specs.Path.{Path}
 use Rattle.vault_write.specs.Calls.{How, IsAt, IsKept, MakesOne}
 use Rattle.vault_write.specs.declared.kept.KeptDir.{KeptDir}

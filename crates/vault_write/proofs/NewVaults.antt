@@ -7,7 +7,7 @@ use Rattle.cryptomator_conf.specs.declared.conf.Combo.{Combo}
 use Rattle.cryptomator_conf.specs.Laws as cm
 use Rattle.cryptomator_conf.specs.Text.{keys_of, made_master, master_text, vault_text, version_bytes, version_mac}
 use Rattle.gocrypt_conf.specs.declared.conf.GoDraw.{GoDraw}
-use Rattle.vault_keys.specs.declared.keys.GoKeys.{GoKeys}
+use Rattle.vault_values.specs.declared.keys.GoKeys.{GoKeys}
 use Rattle.gocrypt_conf.specs.Laws as go
 use Rattle.gocrypt_conf.specs.Keys as gocryptfs
 use Rattle.gocrypt_conf.specs.Text.{conf_text, made_conf}

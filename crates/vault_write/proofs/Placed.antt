@@ -14,7 +14,7 @@ use Rattle.folder_spec.proofs.Paths.{below-parent, one_or_not, path_eq-same, par
 use Rattle.folder_spec.proofs.Seen.{seen_changed, seen_of}
 use Rattle.folder_spec.proofs.Tellings.{from_to_more}
 use Rattle.work_folder.specs.Entries.{stage_path}
-use Rattle.content_writing.specs.Making.{Making, is_inside, is_unstaged}
+use Rattle.item_making.specs.Making.{Making, is_inside, is_unstaged}
 use Rattle.vault_write.specs.Editing.{Edits, HasEdited, HasFinished, AddsEdits, MayCome, side_edits, shelf_edits, home_edits, GoPlaces, HomePlaces, CmPlaces}
 use Rattle.vault_write.proofs.Seeing.{seen_then}
 

@@ -26,14 +26,15 @@ use Rattle.vault_spec.specs.Opens.{opened_file}
 use Rattle.vault_spec.specs.Standing.{Standing, Absent, Strange, File, Dir, root_of, standing, standing_from, standing_in}
 use Rattle.vault_spec.specs.Vault as vaults
 use Rattle.vault_spec.specs.Vault.{format_of}
-use Rattle.content_writing.specs.Content.{Coming, Ending}
-use Rattle.content_writing.specs.Faults.{of_find}
-use Rattle.content_writing.specs.declared.fault.PutFault.{PutFault}
-use Rattle.content_writing.specs.declared.fault.PutFault.TheVariants as puts
+use Rattle.item_making.specs.Ending.{Ending}
+use Rattle.content_writing.specs.Content.{Coming}
+use Rattle.item_making.specs.Faults.{of_find}
+use Rattle.item_making.specs.declared.fault.PutFault.{PutFault}
+use Rattle.item_making.specs.declared.fault.PutFault.TheVariants as puts
 use Rattle.vault_write.specs.Calls.{InPlace, New}
 use Rattle.vault_write.specs.Filing.{IsAtDirectory, IsDir, IsOverFault, MayReplace, PlacesFile, StandsAs, StandsUnder}
-use Rattle.content_writing.specs.Making.{Placing, format, path_of, put_by, put_item, new_item, StagesOrPlaces}
-use Rattle.content_writing.specs.Placing.{IsMaking, MayMake, making_at}
+use Rattle.item_making.specs.Making.{Placing, format, path_of, put_by, put_item, new_item, StagesOrPlaces}
+use Rattle.item_making.specs.Placing.{IsMaking, MayMake, making_at}
 use Rattle.vault_write.specs.Refusing.{Answers, AnswersAtDirectory, AnswersOver, AnswersPut, AnswersPutBy}
 use Rattle.vault_write.specs.Slots.{RefusesItem, placing}
 use Rattle.vault_write.proofs.Found.{Enters}

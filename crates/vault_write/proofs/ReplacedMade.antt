@@ -27,20 +27,21 @@ use Rattle.vault_spec.specs.Opens.{Opened, opened, opened_file}
 use Rattle.vault_spec.specs.Standing as stands
 use Rattle.vault_spec.specs.Standing.{standing}
 use Rattle.vault_spec.specs.Vault.{format_of}
-use Rattle.content_writing.specs.Content.{Coming, Ending, Whole}
+use Rattle.item_making.specs.Ending.{Ending, Whole}
+use Rattle.content_writing.specs.Content.{Coming}
 use Rattle.content_writing.specs.Writing.{DrewNoZeros}
-use Rattle.content_writing.specs.Faults.{of_folder}
-use Rattle.content_writing.specs.declared.fault.PutFault.{PutFault}
-use Rattle.content_writing.specs.declared.fault.PutFault.TheVariants as puts
+use Rattle.item_making.specs.Faults.{of_folder}
+use Rattle.item_making.specs.declared.fault.PutFault.{PutFault}
+use Rattle.item_making.specs.declared.fault.PutFault.TheVariants as puts
 use Rattle.vault_write.specs.Calls.{InPlace, MakesOne, Writing}
 use Rattle.vault_write.specs.Editing.{Edits, HasFinished, IsEditing, SeesSome}
 use Rattle.vault_write.specs.Filing.{DoesReplace, IsWhole, OnlyStages, PlacesBy, PlacesFile, ReplacesContent, StopsBy, replace_making}
-use Rattle.content_writing.specs.Making.{Placing, format, path_of, put_by, put_item, is_unstaged, StagesOrPlaces}
-use Rattle.content_writing.specs.Placing.{IsMaking, MayMake, ShowsNewTree, making_at, EndsAs}
+use Rattle.item_making.specs.Making.{Placing, format, path_of, put_by, put_item, is_unstaged, StagesOrPlaces}
+use Rattle.item_making.specs.Placing.{IsMaking, MayMake, ShowsNewTree, making_at, EndsAs}
 use Rattle.vault_write.specs.Refusing.{AnswersOver, AnswersPut, AnswersPutBy}
 use Rattle.vault_write.specs.Showing.{EditsShowTrees, EditsBeforeTheLastKeepTrees, MakeItem, MakesAlone, SettledEditsShowTrees}
 use Rattle.vault_write.specs.Slots.{placing}
-use Rattle.content_writing.specs.Trees.{StaysGood, opens_as}
+use Rattle.item_making.specs.Trees.{StaysGood, opens_as}
 use Rattle.vault_write.proofs.Begun.{folders_seen}
 use Rattle.vault_write.proofs.FileBegun.{opens_whole}
 use Rattle.vault_write.proofs.FileMade.{begins_at, first_shown, stopped_by, stopped_making}

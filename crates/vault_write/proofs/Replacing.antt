@@ -24,11 +24,11 @@ use Rattle.folder_staging.specs.Folders.{HasStaged, IsStagingFolder}
 use Rattle.work_folder.specs.Entering.{IsReady}
 use Rattle.work_folder.specs.Entries.{stage_path}
 use Rattle.content_writing.specs.Content.{Coming}
-use Rattle.content_writing.specs.Faults.{of_folder}
-use Rattle.content_writing.specs.declared.fault.PutFault.{PutFault}
+use Rattle.item_making.specs.Faults.{of_folder}
+use Rattle.item_making.specs.declared.fault.PutFault.{PutFault}
 use Rattle.vault_write.specs.Editing.{IsEditing, Edits, HasFinished}
 use Rattle.vault_write.specs.Filing.{DoesReplace, MayReplace, ReplacesContent, ReplacesEntry, StagesEntry, StopsBy, file_of, replace_making}
-use Rattle.content_writing.specs.Making.{StagesOrPlaces, is_apart, is_unstaged}
+use Rattle.item_making.specs.Making.{StagesOrPlaces, is_apart, is_unstaged}
 use Rattle.vault_write.proofs.Adding.{IsStagedWhole, adds_nothing, free_in_stage}
 use Rattle.vault_write.proofs.Edited.{StagingAt, some_part, bare_of}
 use Rattle.vault_write.proofs.Directories.{whole_staged}

@@ -6,7 +6,7 @@ use Rattle.folder_spec.specs.Event.{Call, MakeDir, Create, Append, Sync, Settle,
 use Rattle.folder_spec.specs.Moments.{EachState, EachEvent, Went}
 use Rattle.folder_spec.specs.Region.{StagesAt, at_or_below}
 use Rattle.work_folder.specs.Entries.{stage_path}
-use Rattle.content_writing.specs.Making.{Making, is_staged, StagesOrPlaces}
+use Rattle.item_making.specs.Making.{Making, is_staged, StagesOrPlaces}
 use Rattle.vault_write.proofs.Stages.{in_stage, at_root}
 
 -- more is known of each state, and with it of each event

@@ -5,7 +5,7 @@ use Rattle.folder_spec.specs.Region.{apart_from, at_or_below}
 use Rattle.folder_spec.proofs.Paths.{begins_or_not, below-append, below-apart, not_below, child_begins}
 use Rattle.folder_spec.proofs.Replaces.{apart-below, apart-from_below}
 use Rattle.work_folder.specs.Entries.{stage_path}
-use Rattle.content_writing.specs.Making.{is_inside, is_staged, is_unstaged, is_apart}
+use Rattle.item_making.specs.Making.{is_inside, is_staged, is_unstaged, is_apart}
 
 -- a place in the stage, and all below it
 pub in_stage : (work : Path) (x : Part) (rest q : Path) → q ≡ child (stage_path work) x ++ rest → IsTrue (is_staged work q)

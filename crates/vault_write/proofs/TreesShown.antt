@@ -13,12 +13,12 @@ use Rattle.vault_spec.specs.Alike.{IsOrderly}
 use Rattle.vault_spec.specs.Findings.{IsClean}
 use Rattle.vault_spec.specs.Format.{Format}
 use Rattle.vault_spec.specs.Opens.{Opened}
-use Rattle.content_writing.specs.Content.{Ending, Whole}
-use Rattle.content_writing.specs.Making.{Placing, format, path_of, is_staged, is_unstaged}
-use Rattle.content_writing.specs.Placing.{HasVault, ShowsOne, ShowsOldOrNewTree, ShowsNewTree}
+use Rattle.item_making.specs.Ending.{Ending, Whole}
+use Rattle.item_making.specs.Making.{Placing, format, path_of, is_staged, is_unstaged}
+use Rattle.item_making.specs.Placing.{HasVault, ShowsOne, ShowsOldOrNewTree, ShowsNewTree}
 use Rattle.vault_spec.specs.Staying.{LoadsAlike, StaysVault}
 use Rattle.vault_write.specs.Showing.{MakeItem, MakeItemAt, MakesAlone}
-use Rattle.content_writing.specs.Trees.{KeepsTree, GainsItem, opens_as}
+use Rattle.item_making.specs.Trees.{KeepsTree, GainsItem, opens_as}
 
 -- edits below a root are edits of what it shows
 abbrev pub RootsShowEdits : Type 0

@@ -12,13 +12,14 @@ use Rattle.vault_read.specs.Opened.{FitsKey}
 use Rattle.vault_spec.specs.Opened.{OpenedVault}
 use Rattle.vault_spec.specs.Making.{NewItem, NewDirectory, NewFile, draws}
 use Rattle.vault_spec.specs.Vault.{format_of}
-use Rattle.content_writing.specs.Content.{Coming, Ending, Whole, Gave, HasEnded}
+use Rattle.item_making.specs.Ending.{Ending, Whole}
+use Rattle.content_writing.specs.Content.{Coming, Gave, HasEnded}
 use Rattle.content_writing.specs.Writing.{DrewNoZeros, DrewZeros}
-use Rattle.content_writing.specs.Making.{Placing, Making, format, new_item, put_item}
-use Rattle.content_writing.specs.Placing.{Makes}
+use Rattle.item_making.specs.Making.{Placing, Making, format, new_item, put_item}
+use Rattle.item_making.specs.Placing.{Makes}
 use Rattle.vault_write.specs.Refusing.{Answers, AnswersPut, TakesRoot, PutsRoot}
-use Rattle.content_writing.specs.declared.fault.PutFault.{PutFault}
-use Rattle.content_writing.specs.declared.fault.PutFault.TheVariants as puts
+use Rattle.item_making.specs.declared.fault.PutFault.{PutFault}
+use Rattle.item_making.specs.declared.fault.PutFault.TheVariants as puts
 use Rattle.vault_read.specs.declared.finding.DirPlace.{DirPlace}
 use Rattle.vault_write.specs.declared.kept.KeptDir.{KeptDir}
 

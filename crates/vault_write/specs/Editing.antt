@@ -16,7 +16,7 @@ use Rattle.work_folder.specs.Entering.{IsReady}
 use Rattle.vault_spec.specs.Cryptomator.{id_file, full_files}
 use Rattle.vault_spec.specs.Gocryptfs.{key_file}
 use Rattle.vault_spec.specs.Making.{full_texts}
-use Rattle.content_writing.specs.Making.{Making, is_unstaged, is_apart, StagesOrPlaces}
+use Rattle.item_making.specs.Making.{Making, is_unstaged, is_apart, StagesOrPlaces}
 
 -- what is seen outside of the stage is what was seen, after the first of some edits
 pub record SeesSome (work : Path) (edits : List Edit) (s0 s : State) : Type 0 where

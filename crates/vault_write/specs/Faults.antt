@@ -1,8 +1,8 @@
 -- Which faults the calls answer. That the folder failed or memory was refused is told as such, and not as a path that isn't found.
-use Rattle.content_writing.specs.declared.fault.PutFault.{PutFault}
-use Rattle.content_writing.specs.declared.fault.PutFault.TheVariants as puts
+use Rattle.item_making.specs.declared.fault.PutFault.{PutFault}
+use Rattle.item_making.specs.declared.fault.PutFault.TheVariants as puts
 use Rattle.vault_read.specs.Contents.{IsOfPath}
-use Rattle.content_writing.specs.declared.fault.PutFault.TheVariants.{Find, Damaged, Limit, ZeroRandom, Random, Failed, NoMemory}
+use Rattle.item_making.specs.declared.fault.PutFault.TheVariants.{Find, Damaged, Limit, ZeroRandom, Random, Failed, NoMemory}
 
 -- the answers of `place_dir`
 abbrev pub IsDirectoryFault : PutFault → Type 0

@@ -24,14 +24,15 @@ use Rattle.vault_spec.specs.Find.{Refusal, enter}
 use Rattle.vault_spec.specs.Making.{Allows, NewFile, NewItem, full_texts}
 use Rattle.vault_spec.specs.Standing.{Standing, Absent, Strange, File, Dir, standing}
 use Rattle.vault_spec.specs.Vault.{format_of}
-use Rattle.content_writing.specs.Content.{Coming, Whole, Damaged, TooLong}
-use Rattle.content_writing.specs.Faults.{of_folder}
+use Rattle.item_making.specs.Ending.{Whole, Damaged, TooLong}
+use Rattle.content_writing.specs.Content.{Coming}
+use Rattle.item_making.specs.Faults.{of_folder}
 use Rattle.content_writing.specs.Writing.{DrewZeros}
-use Rattle.content_writing.specs.declared.fault.PutFault.{PutFault}
-use Rattle.content_writing.specs.declared.fault.PutFault.TheVariants as puts
+use Rattle.item_making.specs.declared.fault.PutFault.{PutFault}
+use Rattle.item_making.specs.declared.fault.PutFault.TheVariants as puts
 use Rattle.vault_write.specs.Calls.{How, MakesOne, TakesContent, Writing}
 use Rattle.vault_write.specs.Editing.{AddsEdits, Edits, HasEdited, HasFinished}
-use Rattle.content_writing.specs.Making.{Making}
+use Rattle.item_making.specs.Making.{Making}
 use Rattle.vault_write.specs.Slots.{IsSlot, IsTakenAt, RefusesItem, placing}
 
 -- what an entry shows that has these bytes: a file of them, or a folder with that and the text of a long name

@@ -1,8 +1,8 @@
 -- Making a whole vault at a path where nothing stands, so that it comes there at once.
 use Rattle.std.specs.Prelude.{◌≡◌, ◌⊎◌, ◌<◌, ℕ, slice_index, false, true, List, [], ◌∷◌, ◌++◌, Contains, codes, length, Option, Result, Ok, Err, IfOk, OnOk}
 use Rattle.chunk_files.specs.Zeros.{is_all_zero}
-use Rattle.content_writing.specs.declared.fault.PutFault.{PutFault}
-use Rattle.content_writing.specs.declared.fault.PutFault.TheVariants as puts
+use Rattle.item_making.specs.declared.fault.PutFault.{PutFault}
+use Rattle.item_making.specs.declared.fault.PutFault.TheVariants as puts
 use Rattle.cryptomator_conf.specs.declared.conf.CmDraw.{CmDraw}
 use Rattle.cryptomator_conf.specs.declared.conf.Combo.{Combo}
 use Rattle.cryptomator_conf.specs.Text as cryptomator
@@ -29,8 +29,8 @@ use Rattle.vault_spec.specs.NewVault.{go_files, cm_files, new_go_vault, new_cm_v
 use Rattle.vault_spec.specs.Tidy.{IsTidy}
 use Rattle.vault_spec.specs.Vault.{Vault, Gocryptfs, Cryptomator, format_of, IsVault}
 use Rattle.vault_write.specs.declared.drawing.GoParts.{GoParts}
-use Rattle.content_writing.specs.Making.{Making, is_unstaged, is_apart, StagesOrPlaces}
-use Rattle.content_writing.specs.Placing.{MayMake}
+use Rattle.item_making.specs.Making.{Making, is_unstaged, is_apart, StagesOrPlaces}
+use Rattle.item_making.specs.Placing.{MayMake}
 
 -- the stage is ready, and nothing stands at the path in a directory
 pub record MayFound (told : Option Told) (work at : Path) : Type 0 where

@@ -10,11 +10,11 @@ use Rattle.vault_spec.specs.Find.{enter}
 use Rattle.vault_spec.specs.Format.{Directory}
 use Rattle.vault_spec.specs.Making.{Allows, draws, taken}
 use Rattle.vault_spec.specs.Standing.{Standing, Absent, Strange, File, Dir, standing}
-use Rattle.content_writing.specs.Content.{Ending, Whole, Damaged, TooLong}
+use Rattle.item_making.specs.Ending.{Ending, Whole, Damaged, TooLong}
 use Rattle.content_writing.specs.Writing.{DrewNoZeros, DrewZeros}
-use Rattle.content_writing.specs.Making.{Placing, format, path_of}
-use Rattle.content_writing.specs.declared.fault.PutFault.{PutFault}
-use Rattle.content_writing.specs.declared.fault.PutFault.TheVariants as puts
+use Rattle.item_making.specs.Making.{Placing, format, path_of}
+use Rattle.item_making.specs.declared.fault.PutFault.{PutFault}
+use Rattle.item_making.specs.declared.fault.PutFault.TheVariants as puts
 
 -- the directory that is to have the item is this one, and its name is allowed
 pub record MayBeIn (p : Placing) (u : View) (dir : Directory) : Type 0 where

@@ -10,10 +10,10 @@ use Rattle.vault_spec.specs.Staying.{StaysVault}
 use Rattle.vault_spec.specs.Format.{Format}
 use Rattle.vault_spec.specs.Opens.{Opened}
 use Rattle.vault_spec.specs.Tidy.{IsTidy}
-use Rattle.content_writing.specs.Content.{Ending, Whole}
-use Rattle.content_writing.specs.Making.{Placing, format, path_of, is_unstaged}
-use Rattle.content_writing.specs.Placing.{ShowsOldOrNewTree, ShowsNewTree}
-use Rattle.content_writing.specs.Trees.{ShowsVault, opens_as}
+use Rattle.item_making.specs.Ending.{Ending, Whole}
+use Rattle.item_making.specs.Making.{Placing, format, path_of, is_unstaged}
+use Rattle.item_making.specs.Placing.{ShowsOldOrNewTree, ShowsNewTree}
+use Rattle.item_making.specs.Trees.{ShowsVault, opens_as}
 
 -- by these edits an item comes alone to a vault, which stays clean and orderly, and is tidy after them where it was
 pub record MakeItem (f : Format) (u : View) (path : plain.Path) (item : Opened) (edits : List Edit) : Type 0 where

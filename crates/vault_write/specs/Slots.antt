@@ -1,6 +1,6 @@
 -- Where a new item is to stand, and what looking for that answers (private contracts only).
 use Rattle.std.specs.Prelude.{◌≡◌, ◌≢◌, ◌⊎◌, ◌≤◌, ℕ, Bool, true, false, List, ◌++◌, length, Option, Some, None, Result, Ok, Err}
-use Rattle.vault_keys.specs.Id.{id_of}
+use Rattle.vault_values.specs.Id.{id_of}
 use Rattle.port_model.specs.Counts.{CountRose}
 use Rattle.port_model.specs.Draws.{ByteStream, Draws}
 use Rattle.folder_spec.specs.Event.{Told}
@@ -15,11 +15,11 @@ use Rattle.vault_spec.specs.Cryptomator.{taken_unless_folder}
 use Rattle.vault_spec.specs.Gocryptfs.{full_name, taken_unless}
 use Rattle.vault_spec.specs.Making.{NewItem, Allows}
 use Rattle.vault_spec.specs.Standing.{entry_at}
-use Rattle.content_writing.specs.Content.{Ending, Whole}
-use Rattle.content_writing.specs.declared.fault.PutFault.{PutFault}
-use Rattle.content_writing.specs.declared.fault.PutFault.TheVariants as puts
+use Rattle.item_making.specs.Ending.{Ending, Whole}
+use Rattle.item_making.specs.declared.fault.PutFault.{PutFault}
+use Rattle.item_making.specs.declared.fault.PutFault.TheVariants as puts
 use Rattle.vault_write.specs.Calls.{MakesOne, New}
-use Rattle.content_writing.specs.Making.{Placing}
+use Rattle.item_making.specs.Making.{Placing}
 use Rattle.vault_write.specs.Refusing.{Answers}
 
 abbrev pub placing : OpenedVault → Path → plain.Path → List ℕ → NewItem → Placing

@@ -11,7 +11,7 @@ ghost use Rattle.vault_spec.specs.Vault.{format_of};
 ghost use Rattle.vault_write.specs.Calls.{IsAt, IsKept, MakesDirectory};
 ghost use Rattle.vault_write.specs.Editing.{AddsEdits, HomePlaces, GoPlaces, CmPlaces, HasBegun, DoesEdits, shelf_edits, home_edits, go_making, cm_making};
 ghost use Rattle.vault_write.specs.Faults.{IsDirectoryFault};
-ghost use Rattle.content_writing.specs.Placing.{MayMake};
+ghost use Rattle.item_making.specs.Placing.{MayMake};
 ghost use Rattle.vault_write.specs.Slots.{IsSlot, PlacesOne, placing};
 
 use crate::drawing::{draw_id, draw_some};
@@ -26,11 +26,11 @@ use folder_spec::laws::roots_show_their_own;
 use plain_tree::{Name, PlainPath};
 use port_model::Randoms;
 use std::alloc::Global;
-use text_model::Text;
 use vault_names::laws::dir_ids_are_plain;
 use vault_read::laws::items_keep_vaults;
 use vault_read::{DirPlace, Vault, VaultKind};
 use vault_spec::laws::{contents_of_cryptomator_refuse_no_zeros, what_is_found_stands};
+use vault_values::Text;
 use work_folder::Work;
 
 /// Makes a new directory at a plain path.

@@ -12,7 +12,7 @@ ghost use Rattle.vault_write.specs.Calls.{IsAt, IsKept, MakesFile, New, InPlace,
 ghost use Rattle.vault_write.specs.Editing.{MayCome};
 ghost use Rattle.vault_write.specs.Faults.{IsFileFault};
 ghost use Rattle.vault_write.specs.Filing.{StagesEntry, PlacesEntry, PlacesFile, PublishesEntry, MayReplace, ReplacesEntry, ReplacesContent, IsSlotOver, StandsAs, StandsUnder, IsAtDirectory};
-ghost use Rattle.content_writing.specs.Placing.{MayMake};
+ghost use Rattle.item_making.specs.Placing.{MayMake};
 ghost use Rattle.vault_spec.specs.Making.{Allows};
 ghost use Rattle.vault_spec.specs.Standing.{standing};
 ghost use Rattle.vault_write.specs.Slots.{IsSlot, CountsFailed};
@@ -32,11 +32,11 @@ use folder_staging::laws::{staged_folders_are_seen, staged_folders_gain_files};
 use plain_tree::{Name, NodeKind, PlainPath};
 use port_model::Randoms;
 use std::alloc::Global;
-use text_model::Text;
 use vault_faults::FindFault;
 use vault_read::laws::{files_have_their_contents, items_keep_vaults};
 use vault_read::{DirPlace, Place, Vault, VaultKind, find};
 use vault_spec::laws::what_is_found_stands;
+use vault_values::Text;
 use work_folder::Work;
 
 /// Makes a new file at a plain path.

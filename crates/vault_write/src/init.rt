@@ -34,13 +34,13 @@ use gocrypt_conf::laws::made_texts_give_back_their_keys;
 use kdf_suite::ScryptCost;
 use port_model::Randoms;
 use std::alloc::Global;
-use vault_keys::CmKeys;
 use vault_names::cm_folder;
 use vault_names::laws::cm_folders_are_plain;
 use vault_spec::laws::{
     new_vaults_of_cryptomator_are_empty, new_vaults_of_gocryptfs_are_empty,
     vaults_of_cryptomator_stay_tidy, vaults_of_gocryptfs_stay_tidy,
 };
+use vault_values::CmKeys;
 use work_folder::Work;
 
 /// Makes a new gocryptfs vault at a path where nothing stands. It comes there whole, at once, and lasts.

@@ -22,12 +22,12 @@ use folder_model::{FPath, Folder, Kind};
 use folder_spec::FolderFault;
 use plain_tree::{Name, PlainPath};
 use std::alloc::{AllocError, Global};
-use text_model::Text;
 use vault_names::Stored;
 use vault_read::{
     DirPlace, SmallFile, Vault, VaultKind, content_folder, enter, read_small, stored_in,
 };
 use vault_spec::laws::what_is_found_stands;
+use vault_values::Text;
 
 // The place of a new item: the folder that holds its entry, the entry's path, and the text of a long name.
 #[derive(Drop)]

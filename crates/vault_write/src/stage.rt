@@ -17,7 +17,7 @@ use folder_spec::FolderFault;
 use folder_staging::laws::{staged_folders_are_seen, staged_folders_gain_files};
 use folder_staging::{begin_folder, stage_file};
 use std::alloc::AllocError;
-use text_model::Text;
+use vault_values::Text;
 use work_folder::Work;
 
 // A place in the stage.

@@ -1,4 +1,4 @@
-//! Calls of vault_keys, gocrypt_conf and cryptomator_conf.
+//! Calls of vault_values, gocrypt_conf and cryptomator_conf.
 
 ghost use Rattle.std.specs.Prelude.{◌<◌};
 
@@ -12,7 +12,7 @@ use cryptomator_conf::{
 use gocrypt_conf::{GoConf, GoDraw};
 use kdf_suite::hmac256;
 use std::alloc::{AllocError, Global};
-use vault_keys::{CmKeys, id_text};
+use vault_values::{CmKeys, id_text};
 
 /// Makes a call of this module, and says whether there is one of this name.
 pub fn answer(name: &str, args: &mut Arguments, answer: &mut Answer) -> bool {

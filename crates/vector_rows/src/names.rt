@@ -9,11 +9,11 @@ use crate::paths::name;
 use aes_lanes::Block;
 use plain_tree::Name;
 use std::alloc::{AllocError, Global};
-use vault_keys::{CmKeys, GoKeys};
 use vault_names::{
     NameFault, Stored, base32_of, cm_folder, cm_long, cm_read, cm_store, go_long, go_read,
     go_store, new_dir_id,
 };
+use vault_values::{CmKeys, GoKeys};
 
 /// Makes a call of this module, and says whether there is one of this name.
 pub fn answer(name: &str, args: &mut Arguments, answer: &mut Answer) -> bool {

@@ -1,4 +1,4 @@
-//! Calls of text_model and json_fields.
+//! Calls of vault_values and json_fields.
 
 use crate::answer::Answer;
 use crate::arguments::Arguments;
@@ -6,7 +6,7 @@ use json_fields::{
     Alphabet, FieldFault, bytes_at, decode, json_object, number_at, object_at, text_at, texts_at,
 };
 use serde_json::Value;
-use text_model::{Bytes, Text};
+use vault_values::{Bytes, Text};
 
 /// Makes a call of this module, and says whether there is one of this name.
 pub fn answer(name: &str, args: &mut Arguments, answer: &mut Answer) -> bool {

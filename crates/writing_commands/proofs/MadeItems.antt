@@ -2,9 +2,9 @@
 use Rattle.std.proofs.Common.{◌≡◌, ◌⊎◌, zero, suc, ℕ, Bool, true, false, List, [], ◌∷◌, Option, Some, Result, Ok, Err, OnOk, IfErr, inl, inr, refl, sym, ap, subst, arith, IsTrue}
 use Rattle.std.specs.Prelude.{Contains}
 use Rattle.std.specs.Io.KnownBytes.{Keeps}
-use Rattle.content_writing.specs.Content.{Ending, Whole}
-use Rattle.content_writing.specs.declared.fault.PutFault.{PutFault}
-use Rattle.content_writing.specs.declared.fault.PutFault.TheVariants as puts
+use Rattle.item_making.specs.Ending.{Ending, Whole}
+use Rattle.item_making.specs.declared.fault.PutFault.{PutFault}
+use Rattle.item_making.specs.declared.fault.PutFault.TheVariants as puts
 use Rattle.folder_spec.specs.Path.{Path}
 use Rattle.folder_spec.specs.State.{Table, State, IsTableOf, IsSound}
 use Rattle.folder_spec.specs.Event.{Event, Told, FromTo}
@@ -21,9 +21,9 @@ use Rattle.vault_spec.specs.Making.{NewItem, NewDirectory}
 use Rattle.vault_spec.specs.Vault.{Vault}
 use Rattle.vault_write.specs.Calls.{How, New, IsOfMaking, making_by, AnswersBy, MakesOne, MakesAt, MakesDirectory}
 use Rattle.vault_write.specs.Faults.{IsDirectoryFault}
-use Rattle.content_writing.specs.Making.{Placing, Making, format, path_of, is_elsewhere, StagesOrPlaces}
-use Rattle.content_writing.specs.Placing.{ShowsOne, ShowsNewTree, IsMaking, EndsAs, making_at}
-use Rattle.content_writing.specs.Trees.{KeepsTree, GainsItem, opens_as}
+use Rattle.item_making.specs.Making.{Placing, Making, format, path_of, is_elsewhere, StagesOrPlaces}
+use Rattle.item_making.specs.Placing.{ShowsOne, ShowsNewTree, IsMaking, EndsAs, making_at}
+use Rattle.item_making.specs.Trees.{KeepsTree, GainsItem, opens_as}
 use Rattle.work_folder.specs.Entering.{EntersAs}
 use Rattle.open_for_changing.proofs.Beginnings.{Alike, Begins, Outside, apart_of_both, apart_of_unstaged, as_before_in, as_before_then, begun_then, same_under, seen_after, seen_alike, went_alone}
 use Rattle.open_for_changing.proofs.Endings.{ended_before, made_beside}

@@ -1,7 +1,7 @@
 -- What an answer to a call that makes something tells of the call.
 use Rattle.std.proofs.Common.{◌≡◌, ◌⊎◌, Result, Ok, Err, IfErr, inl, inr, refl, subst}
-use Rattle.content_writing.specs.declared.fault.PutFault.{PutFault}
-use Rattle.content_writing.specs.declared.fault.PutFault.TheVariants as puts
+use Rattle.item_making.specs.declared.fault.PutFault.{PutFault}
+use Rattle.item_making.specs.declared.fault.PutFault.TheVariants as puts
 use Rattle.vault_faults.specs.declared.fault.FindFault.TheVariants as finds
 use Rattle.writing_commands.specs.Faults.{answer_to_making}
 use Rattle.command_answers.specs.declared.answer.Answer.{Answer}

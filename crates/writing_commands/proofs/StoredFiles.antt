@@ -2,10 +2,11 @@
 use Rattle.std.proofs.Common.{◌≡◌, ℕ, Bool, true, false, List, [], length, take, Option, Some, None, Result, Ok, Err, OnOk, refl, sym, ap, ◌∙◌, subst, nat_le, if◌then◌else◌, IsTrue}
 use Rattle.std.specs.Io.KnownBytes.{Keeps}
 use Rattle.chunk_files.specs.Keys.{Keys}
-use Rattle.content_writing.specs.Content.{Coming, Gave, HasEnded, Whole, TooLong, coming_from, ends, within}
+use Rattle.item_making.specs.Ending.{Whole, TooLong}
+use Rattle.content_writing.specs.Content.{Coming, Gave, HasEnded, coming_from, ends, within}
 use Rattle.vault_faults.specs.Limits.{content_limit}
-use Rattle.content_writing.specs.declared.fault.PutFault.{PutFault}
-use Rattle.content_writing.specs.declared.fault.PutFault.TheVariants as puts
+use Rattle.item_making.specs.declared.fault.PutFault.{PutFault}
+use Rattle.item_making.specs.declared.fault.PutFault.TheVariants as puts
 use Rattle.folder_spec.specs.Path.{Path}
 use Rattle.folder_spec.specs.State.{IsSound}
 use Rattle.folder_spec.specs.Event.{Told}

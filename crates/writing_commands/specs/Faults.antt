@@ -1,6 +1,6 @@
 -- The answers to what is made.
 use Rattle.std.specs.Prelude.{Result, Ok, Err}
-use Rattle.content_writing.specs.declared.fault.PutFault.{PutFault}
+use Rattle.item_making.specs.declared.fault.PutFault.{PutFault}
 use Rattle.command_answers.specs.declared.answer.Answer.{Answer}
 use Rattle.command_answers.specs.declared.answer.Answer.TheVariants.{Done}
 use Rattle.open_for_changing.specs.Faults.{of_put}

@@ -1,7 +1,7 @@
 -- `init`: a new vault at a path where nothing stands.
 use Rattle.std.specs.Prelude.{◌≡◌, ◌⊎◌, ℕ, List, [], ◌∷◌, Result, OnOk, Option, IsTrue}
 use Rattle.std.specs.Io.KnownBytes.{Keeps}
-use Rattle.content_writing.specs.declared.fault.PutFault.{PutFault}
+use Rattle.item_making.specs.declared.fault.PutFault.{PutFault}
 use Rattle.cryptomator_conf.specs.declared.conf.CmDraw.{CmDraw}
 use Rattle.cryptomator_conf.specs.declared.conf.Combo.{Combo}
 use Rattle.cryptomator_conf.specs.declared.conf.Combo.TheVariants.{SivGcm, SivCtrMac}
@@ -22,7 +22,7 @@ use Rattle.command_words.specs.declared.values.Format.TheVariants.{Gocryptfs, Cr
 use Rattle.vault_spec.specs.NewVault.{go_files, cm_files, new_go_vault, new_cm_vault}
 use Rattle.vault_spec.specs.Vault.{Vault}
 use Rattle.vault_write.specs.Founding.{FoundsGo, FoundsCm, IsGoDraw, IsCmDraw, GoDrew, CmDrew, IsNewVault, founding, texts, vault_edit}
-use Rattle.content_writing.specs.Making.{StagesOrPlaces}
+use Rattle.item_making.specs.Making.{StagesOrPlaces}
 use Rattle.open_for_reading.specs.Tests.{is_of_readying}
 use Rattle.open_for_changing.specs.Beginning.{MakesBeside, OfWork}
 use Rattle.open_for_reading.specs.Places.{OfFree}

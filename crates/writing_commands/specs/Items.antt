@@ -1,10 +1,10 @@
 -- Making an item at a plain path of a vault, behind a work folder that is made ready first: a crash at any moment leaves the old tree
 -- or the new one.
 use Rattle.std.specs.Prelude.{◌≡◌, ◌≢◌, ◌⊎◌, ◌≤◌, ℕ, Bool, List, [], ◌∷◌, ◌++◌, length, Result, Err, OnOk, IfErr, Option, IsTrue}
-use Rattle.content_writing.specs.Content.{Ending, Whole}
+use Rattle.item_making.specs.Ending.{Ending, Whole}
 use Rattle.content_writing.specs.Writing.{DrewNoZeros, DrewZeros}
-use Rattle.content_writing.specs.declared.fault.PutFault.{PutFault}
-use Rattle.content_writing.specs.declared.fault.PutFault.TheVariants as puts
+use Rattle.item_making.specs.declared.fault.PutFault.{PutFault}
+use Rattle.item_making.specs.declared.fault.PutFault.TheVariants as puts
 use Rattle.folder_spec.specs.Path.{Path}
 use Rattle.folder_spec.specs.State.{Table, State, IsTableOf}
 use Rattle.folder_spec.specs.Edit.{IsPartOf}
@@ -20,9 +20,9 @@ use Rattle.vault_spec.specs.Making.{NewItem, draws}
 use Rattle.vault_spec.specs.Vault.{Vault}
 use Rattle.vault_spec.specs.Opened.{OpenedVault}
 use Rattle.vault_write.specs.Calls.{How, IsOfMaking, making_by, AnswersBy, AnswersRoot}
-use Rattle.content_writing.specs.Making.{Placing, Making, format, path_of, StagesOrPlaces}
-use Rattle.content_writing.specs.Placing.{ShowsOne, EndsAs, making_at}
-use Rattle.content_writing.specs.Trees.{KeepsTree, GainsItem, opens_as}
+use Rattle.item_making.specs.Making.{Placing, Making, format, path_of, StagesOrPlaces}
+use Rattle.item_making.specs.Placing.{ShowsOne, EndsAs, making_at}
+use Rattle.item_making.specs.Trees.{KeepsTree, GainsItem, opens_as}
 use Rattle.writing_commands.specs.Faults.{answer_to_making}
 use Rattle.open_for_changing.specs.Beginning.{ChangesOnlyWork, MakesBeside, OfSite}
 use Rattle.open_for_reading.specs.Opening.{Opens}

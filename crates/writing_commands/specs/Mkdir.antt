@@ -1,7 +1,7 @@
 -- `mkdir`: a new directory at a plain path of a vault.
 use Rattle.std.specs.Prelude.{Bool, true, false}
 use Rattle.std.specs.Io.KnownBytes.{Keeps}
-use Rattle.content_writing.specs.Content.{Whole}
+use Rattle.item_making.specs.Ending.{Whole}
 use Rattle.vault_spec.specs.Making.{NewDirectory}
 use Rattle.vault_write.specs.Calls.{New}
 use Rattle.writing_commands.specs.Items.{ChangesVault, MakesIn}

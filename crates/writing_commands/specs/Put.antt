@@ -1,6 +1,7 @@
 -- `put`: the input as a file at a plain path of a vault, new or in the place of the content of a file that stands there.
 use Rattle.std.specs.Prelude.{◌≡◌, ℕ, Bool, true, false, List, [], Option, Some}
-use Rattle.content_writing.specs.Content.{Ending, within}
+use Rattle.item_making.specs.Ending.{Ending}
+use Rattle.content_writing.specs.Content.{within}
 use Rattle.vault_faults.specs.Limits.{content_limit}
 use Rattle.folder_spec.specs.Event.{Told}
 use Rattle.port_model.specs.Draws.{ByteStream}

@@ -3,7 +3,7 @@ ghost use Rattle.std.specs.Prelude.{◌≡◌, ◌⊎◌, ◌≤◌, ℕ, Bool, 
 ghost use Rattle.folder_spec.specs.Seen.{IfSeen};
 ghost use Rattle.port_model.specs.Counts.{CountRose};
 ghost use Rattle.vault_write.specs.Founding.{MayFound};
-ghost use Rattle.content_writing.specs.Placing.{MayMake};
+ghost use Rattle.item_making.specs.Placing.{MayMake};
 ghost use Rattle.open_for_reading.specs.Places.{overlap};
 ghost use Rattle.writing_commands.specs.Init.{cost_of, FoundsAs, FoundsNew, MakesVault, OfPlace, RefusesPlace};
 ghost use Rattle.open_for_reading.specs.Opening.{IsPhrase};

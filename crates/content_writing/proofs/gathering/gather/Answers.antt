@@ -3,7 +3,7 @@ use Rattle.std.proofs.lemmas.List.{length-append, length-take-le}
 use Rattle.std.proofs.lemmas.Result.{err_from_is_err_and}
 use Rattle.folder_model.proofs.Counting.{rose_since}
 use Rattle.content_writing.specs.Content.{Gave, still_coming}
-use Rattle.content_writing.specs.declared.fault.PutFault.TheVariants as put
+use Rattle.item_making.specs.declared.fault.PutFault.TheVariants as put
 use Rattle.content_writing.proofs.Comings.{gives_still, piece_fails, piece_more, piece_last}
 use Rattle.content_writing.proofs.gathering.gather.Goals as goal
 

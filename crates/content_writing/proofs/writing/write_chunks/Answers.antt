@@ -7,8 +7,8 @@ use Rattle.folder_spec.specs.Path.{Path}
 use Rattle.folder_spec.specs.View.{Found}
 use Rattle.content_writing.specs.Content.{Coming, IsReady, still_coming}
 use Rattle.content_writing.specs.Streaming.{BeginsContent, Gathers, IsStaged, IsUnderway, StoresChunk, Start}
-use Rattle.content_writing.specs.declared.fault.PutFault.{PutFault}
-use Rattle.content_writing.specs.declared.fault.PutFault.TheVariants as put
+use Rattle.item_making.specs.declared.fault.PutFault.{PutFault}
+use Rattle.item_making.specs.declared.fault.PutFault.TheVariants as put
 use Rattle.content_writing.proofs.Blaming.{blames_at, stores_unread}
 use Rattle.content_writing.proofs.Drawing.{full_is, some_full}
 use Rattle.content_writing.proofs.Standing.{IsStill, staged_still, still_same, ready_now, ready_before}

@@ -1,5 +1,5 @@
 use Rattle.std.proofs.Common.{ℕ, List, ap₂}
-use Rattle.vault_keys.specs.declared.keys.CmKeys.{CmKeys}
+use Rattle.vault_values.specs.declared.keys.CmKeys.{CmKeys}
 use Rattle.cryptomator_conf.proofs.laws.passphrases_unlock_one_pair.Goals as goal
 
 pub returns : goal.returns

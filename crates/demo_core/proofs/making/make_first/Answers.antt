@@ -1,10 +1,10 @@
 use Rattle.std.proofs.Common.{◌≡◌, ◌≢◌, ◌∙◌, ◌∷◌, [], None, Ok, Err, codes, arith, inr, refl, sym, ap, subst}
-use Rattle.content_writing.specs.declared.fault.PutFault.TheVariants as put
+use Rattle.item_making.specs.declared.fault.PutFault.TheVariants as put
 use Rattle.folder_model.proofs.Counting.{rose_since}
 use Rattle.folder_spec.specs.Region.{apart_from_both}
 use Rattle.folder_spec.specs.Seen.{IsSeen}
 use Rattle.vault_read.specs.declared.vault.VaultKind.TheVariants as kind
-use Rattle.content_writing.specs.Making.{is_apart}
+use Rattle.item_making.specs.Making.{is_apart}
 use Rattle.work_folder.specs.Entering.{IsFresh, IsReady}
 use Rattle.demo_core.specs.Making.{IsBeside, IsNotPut, MakesBeside, making_folder}
 use Rattle.demo_core.specs.Sharing.{GoesOn, SharesPlace}

@@ -1,5 +1,5 @@
 use Rattle.std.proofs.Common.{◌≡◌, ◌∙◌, None, Err, refl, sym, ap, subst, arith}
-use Rattle.content_writing.specs.declared.fault.PutFault.TheVariants as put
+use Rattle.item_making.specs.declared.fault.PutFault.TheVariants as put
 use Rattle.demo_core.proofs.Drawn.{drew_for, drew_nothing, not_zeros}
 use Rattle.folder_model.proofs.Counting.{rose_since}
 use Rattle.folder_model.specs.Text.{parts_of}
@@ -9,7 +9,7 @@ use Rattle.work_folder.specs.Entering.{EntersAs, IsFresh, IsReady}
 use Rattle.work_folder.specs.Looking.{Gives}
 use Rattle.folder_spec.specs.Path.{below}
 use Rattle.folder_spec.specs.Seen.{ShowsFree, seen}
-use Rattle.content_writing.specs.Making.{is_apart}
+use Rattle.item_making.specs.Making.{is_apart}
 use Rattle.demo_core.specs.Making.{IsBeside, MakesBeside, making_folder}
 use Rattle.demo_core.proofs.Chances.{enter_chance, free_stays, fresh_stays}
 use Rattle.demo_core.proofs.Beside.{beside_nowhere, beside_then, made_beside, may_found, shown_told, told_after, work_beside, work_first}

@@ -1,7 +1,7 @@
 use Rattle.std.proofs.Common.{arith, ◌≡◌, ◌+◌, Ok, Err, inr, refl}
 use Rattle.std.proofs.lemmas.Result.{err_from_is_err_and}
 use Rattle.folder_spec.proofs.Tellings.{from_to_on, from_to_same}
-use Rattle.content_writing.specs.Making.{is_apart}
+use Rattle.item_making.specs.Making.{is_apart}
 use Rattle.demo_core.specs.Making.{HoldsAlone}
 use Rattle.demo_core.proofs.Beside.{beside_nowhere, beside_then, carried, still_told}
 use Rattle.demo_core.proofs.Drawn.{drew_for, drew_nothing, drew_then}

@@ -1,7 +1,7 @@
 use Rattle.std.proofs.Common.{◌≤◌}
 use Rattle.folder_spec.specs.Event.{FromTo}
 use Rattle.folder_spec.specs.Seen.{IfSeen}
-use Rattle.content_writing.specs.Making.{is_apart}
+use Rattle.item_making.specs.Making.{is_apart}
 use Rattle.work_folder.specs.Entering.{IsReady}
 use Rattle.demo_core.specs.Drawing.{Drew}
 use Rattle.demo_core.specs.Making.{HoldsAlone, IsBeside}

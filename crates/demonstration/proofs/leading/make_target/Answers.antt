@@ -1,5 +1,5 @@
 use Rattle.std.proofs.Common.{refl, ◌≡◌, ◌∙◌, Err, ap}
-use Rattle.content_writing.specs.declared.fault.PutFault.TheVariants.{ZeroRandom}
+use Rattle.item_making.specs.declared.fault.PutFault.TheVariants.{ZeroRandom}
 use Rattle.demo_core.specs.declared.fault.MakeFault.TheVariants.{Put}
 use Rattle.demo_core.proofs.Drawn.{drew_for}
 use Rattle.demonstration.proofs.DemoDraws.{drew_none, drew_some}

@@ -1,7 +1,7 @@
 use Rattle.std.proofs.Common.{◌≡◌, ◌∙◌, sym, subst, subst₂, Err, IfErr, IfOk, Ok, inl}
 use Rattle.folder_spec.specs.Region.{apart_from_both}
 use Rattle.folder_spec.specs.Seen.{IsSeen, seen}
-use Rattle.move_journal.specs.Journal.{IsParsed}
+use Rattle.folder_model.specs.Text.{IsParsed}
 use Rattle.migration_spec.specs.Alone.{Unbegun}
 use Rattle.migrate_core.specs.Leading.{Guards}
 use Rattle.migrate_core.specs.Moving.{MovesOnly}

@@ -3,7 +3,7 @@ use Rattle.folder_spec.specs.Region.{apart_from_both}
 use Rattle.folder_spec.specs.Seen.{IfSeen}
 use Rattle.move_journal.specs.Writing.{IsWorkFolder}
 use Rattle.migration_spec.specs.Alone.{Begun, Finished}
-use Rattle.content_writing.specs.Making.{is_apart}
+use Rattle.item_making.specs.Making.{is_apart}
 use Rattle.migrate_core.proofs.Leadings.{goes_failed, goes_on, refused_nowhere}
 use Rattle.migrate_core.proofs.Movings.{mapped_walk, moves_on, moves_to, moves_within, moving_stays, source_apart}
 use Rattle.migrate_core.proofs.WorkFolders.{beside_staged, journal_stays, placing_has, tidy_placed, work_folder_stays}

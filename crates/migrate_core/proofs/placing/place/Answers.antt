@@ -1,6 +1,6 @@
 use Rattle.std.proofs.Common.{IsTrue, Err, Ok, refl, sym, ap, ◌∙◌, subst, [], ◌∷◌, Result}
 use Rattle.std.specs.List.{list_all}
-use Rattle.content_writing.specs.Content.{Whole}
+use Rattle.item_making.specs.Ending.{Whole}
 use Rattle.migration_spec.specs.Alone.{Begun}
 use Rattle.plain_tree.specs.Names.{is_name}
 use Rattle.vault_spec.specs.Making.{NewDirectory}
@@ -23,8 +23,8 @@ use Rattle.migrate_core.proofs.placing.place.Goals.{After-place_dir_keeping}
 use Rattle.migration_sides.proofs.Chains.{fault_as}
 use Rattle.migrate_core.specs.Leading.{LeadsEach}
 use Rattle.migrate_core.specs.Moving.{MovesBeside}
-use Rattle.content_writing.specs.Making.{is_apart}
-use Rattle.content_writing.specs.declared.fault.PutFault.{PutFault}
+use Rattle.item_making.specs.Making.{is_apart}
+use Rattle.item_making.specs.declared.fault.PutFault.{PutFault}
 
 -- once the directory is placed, or that has failed
 module _ (g : Over) (c : After-place_dir_keeping g) where

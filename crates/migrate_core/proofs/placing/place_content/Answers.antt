@@ -9,7 +9,7 @@ use Rattle.vault_spec.specs.Making.{NewFile}
 use Rattle.vault_spec.specs.Plan.{Planned}
 use Rattle.vault_spec.specs.Vault.{format_of}
 use Rattle.vault_write.specs.Calls.{New, MakesAt, MakesFile}
-use Rattle.content_writing.specs.Making.{is_apart}
+use Rattle.item_making.specs.Making.{is_apart}
 use Rattle.migrate_core.proofs.Blaming.{blamed_file}
 use Rattle.migrate_core.proofs.Leadings.{goes_failed}
 use Rattle.migrate_core.proofs.Movings.{moves_nowhere}
@@ -33,7 +33,7 @@ use Rattle.migrate_core.proofs.placing.place_content.Goals.{In_ok-content, After
 use Rattle.migration_sides.proofs.Chains.{fault_as}
 use Rattle.migrate_core.specs.Leading.{LeadsEach}
 use Rattle.migrate_core.specs.Moving.{MovesBeside}
-use Rattle.content_writing.specs.declared.fault.PutFault.{PutFault}
+use Rattle.item_making.specs.declared.fault.PutFault.{PutFault}
 
 -- the content gives the item's file
 gives : (g : Over) (c : In_ok-content g) → IsContentOf c.args.sides.now.source c.args.item.now c.in_ok-content.content

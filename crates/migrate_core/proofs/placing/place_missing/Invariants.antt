@@ -2,7 +2,7 @@ use Rattle.std.proofs.Common.{◌≡◌, ◌≤◌, ◌++◌, take, []}
 use Rattle.folder_spec.specs.Seen.{IfSeen}
 use Rattle.migration_spec.specs.Alone.{Begun}
 use Rattle.vault_walk.specs.Survey.{IsOrdered}
-use Rattle.content_writing.specs.Making.{is_apart}
+use Rattle.item_making.specs.Making.{is_apart}
 use Rattle.work_folder.specs.Entering.{IsReady}
 use Rattle.vault_write.specs.Calls.{IsKept}
 use Rattle.migrate_core.specs.Copying.{CopiesAll}

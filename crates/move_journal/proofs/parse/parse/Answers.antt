@@ -1,5 +1,6 @@
 use Rattle.std.proofs.Common.{◌≡◌, ◌≤◌, List, ℕ, ◌++◌, [], ◌∷◌, length, nat_eq, true, ap, refl, ◌∙◌, arith, lit<}
-use Rattle.move_journal.specs.Journal.{IsParsed, from_line, to_line, items_line}
+use Rattle.folder_model.specs.Text.{IsParsed}
+use Rattle.move_journal.specs.Journal.{from_line, to_line, items_line}
 use Rattle.move_journal.specs.declared.journal.Form.{Form}
 use Rattle.move_journal.specs.Lines.{AtFirst, BeginsWithNoLine}
 use Rattle.move_journal.specs.Parsing.{in_form}

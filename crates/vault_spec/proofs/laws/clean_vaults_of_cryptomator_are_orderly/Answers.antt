@@ -1,5 +1,5 @@
 use Rattle.std.proofs.Common.{subst, sym}
-use Rattle.vault_keys.specs.declared.keys.CmKeys.{CmKeys}
+use Rattle.vault_values.specs.declared.keys.CmKeys.{CmKeys}
 use Rattle.vault_spec.proofs.CmVault.{CmTexts, cm_lawful}
 use Rattle.vault_spec.proofs.Lawful.{IsLawful}
 use Rattle.vault_spec.proofs.Clean.{clean_is_orderly}

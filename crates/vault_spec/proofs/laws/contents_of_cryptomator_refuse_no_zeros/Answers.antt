@@ -2,7 +2,7 @@ use Rattle.std.proofs.Common.{◌≡◌, false, refl}
 use Rattle.chunk_files.specs.Keys.{format_of}
 use Rattle.cryptomator_conf.specs.declared.conf.Combo.{Combo}
 use Rattle.cryptomator_conf.specs.declared.conf.Combo.TheVariants.{SivGcm, SivCtrMac}
-use Rattle.vault_keys.specs.declared.keys.CmKeys.{CmKeys}
+use Rattle.vault_values.specs.declared.keys.CmKeys.{CmKeys}
 use Rattle.vault_spec.specs.Cryptomator.{contents_by}
 use Rattle.vault_spec.proofs.laws.contents_of_cryptomator_refuse_no_zeros.Goals as goal
 

@@ -1,4 +1,4 @@
-use Rattle.vault_keys.specs.declared.keys.CmKeys.{CmKeys}
+use Rattle.vault_values.specs.declared.keys.CmKeys.{CmKeys}
 use Rattle.vault_spec.specs.Cryptomator.{cm_format}
 use Rattle.vault_spec.proofs.CmVault.{CmTexts, cm_lawful}
 use Rattle.vault_spec.proofs.CmKeeping.{CmFolders, cm_keeps}

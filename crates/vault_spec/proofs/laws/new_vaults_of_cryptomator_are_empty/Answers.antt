@@ -1,6 +1,6 @@
 use Rattle.std.proofs.Common.{[], subst}
 use Rattle.cryptomator_conf.specs.Text.{made_master, master_text, vault_text, version_bytes, version_mac}
-use Rattle.vault_keys.specs.declared.keys.CmKeys.{CmKeys}
+use Rattle.vault_values.specs.declared.keys.CmKeys.{CmKeys}
 use Rattle.vault_names.specs.Cryptomator.{cm_folder_of}
 use Rattle.vault_spec.specs.Cryptomator.{cm_format}
 use Rattle.vault_spec.specs.Empty.{IsEmptyVault}

@@ -1,4 +1,4 @@
-use Rattle.vault_keys.specs.declared.keys.CmKeys.{CmKeys}
+use Rattle.vault_values.specs.declared.keys.CmKeys.{CmKeys}
 use Rattle.vault_spec.proofs.CmFree.{CmSizes, cm_places_free}
 use Rattle.vault_spec.proofs.CmKeeping.{CmFolders}
 use Rattle.vault_spec.proofs.CmVault.{CmTexts}

@@ -1,5 +1,5 @@
 use Rattle.std.proofs.Common.{refl, sym, ◌∙◌, arith}
-use Rattle.vault_keys.specs.Id.{id_of}
+use Rattle.vault_values.specs.Id.{id_of}
 use Rattle.vault_spec.specs.Making.{NewDirectory}
 use Rattle.vault_write.specs.Editing.{cm_making}
 use Rattle.vault_write.specs.Slots.{placing}

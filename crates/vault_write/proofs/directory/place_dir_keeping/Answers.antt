@@ -1,5 +1,5 @@
 use Rattle.std.proofs.Common.{◌-◌, length, take, subst, arith}
-use Rattle.content_writing.specs.declared.fault.PutFault.TheVariants as puts
+use Rattle.item_making.specs.declared.fault.PutFault.TheVariants as puts
 use Rattle.vault_write.specs.Calls.{New}
 use Rattle.vault_write.specs.Faults.{IsDirectoryFault}
 use Rattle.vault_write.proofs.DirectoryPlaced.{last_name, named_made, no_names, root_made}

@@ -1,5 +1,5 @@
 use Rattle.std.proofs.Common.{[], arith}
-use Rattle.content_writing.specs.Content.{Whole}
+use Rattle.item_making.specs.Ending.{Whole}
 use Rattle.vault_spec.specs.Making.{NewDirectory}
 use Rattle.vault_write.specs.Slots.{placing}
 use Rattle.vault_write.proofs.DirectoryPlaced.{drawn_none, refused_one}

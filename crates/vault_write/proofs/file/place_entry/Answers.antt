@@ -1,8 +1,8 @@
 use Rattle.std.proofs.Common.{◌∙◌, sym, codes, refl, arith}
 use Rattle.folder_spec.proofs.Paths.{child-not_base}
 use Rattle.work_folder.specs.Entries.{stage_path}
-use Rattle.content_writing.specs.Faults.{of_folder}
-use Rattle.content_writing.specs.declared.fault.PutFault.TheVariants as puts
+use Rattle.item_making.specs.Faults.{of_folder}
+use Rattle.item_making.specs.declared.fault.PutFault.TheVariants as puts
 use Rattle.content_writing.proofs.Blaming.{blames_at, folder_blames, folder_undrawn, folder_unread}
 use Rattle.vault_write.specs.Filing.{entry_files, file_of}
 use Rattle.vault_write.proofs.Directories.{directory_free}

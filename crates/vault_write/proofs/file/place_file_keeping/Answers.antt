@@ -1,5 +1,5 @@
 use Rattle.std.proofs.Common.{refl, subst, arith}
-use Rattle.content_writing.specs.declared.fault.PutFault.TheVariants as puts
+use Rattle.item_making.specs.declared.fault.PutFault.TheVariants as puts
 use Rattle.vault_write.specs.Calls.{New}
 use Rattle.vault_write.proofs.DirectoryPlaced.{last_name, no_names}
 use Rattle.vault_write.proofs.FileMade.{named_file, root_file, root_fits}

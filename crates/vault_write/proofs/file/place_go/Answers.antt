@@ -1,7 +1,7 @@
 use Rattle.std.proofs.Common.{sym, subst}
 use Rattle.folder_spec.specs.Seen.{IsSeen}
 use Rattle.content_writing.specs.Content.{still_coming}
-use Rattle.content_writing.specs.Faults.{of_folder}
+use Rattle.item_making.specs.Faults.{of_folder}
 use Rattle.vault_spec.specs.Making.{NewFile}
 use Rattle.vault_write.specs.Calls.{New}
 use Rattle.vault_write.specs.Filing.{PlacesFile}

@@ -1,5 +1,5 @@
 use Rattle.std.proofs.Common.{refl}
-use Rattle.content_writing.specs.declared.fault.PutFault.TheVariants as puts
+use Rattle.item_making.specs.declared.fault.PutFault.TheVariants as puts
 use Rattle.vault_write.specs.Calls.{New}
 use Rattle.vault_write.proofs.FileMade.{file_refused}
 use Rattle.vault_write.proofs.file.place_in.Goals as goal

@@ -1,5 +1,5 @@
 use Rattle.std.proofs.Common.{◌≡◌, ◌⊎◌, refl, subst, arith}
-use Rattle.content_writing.specs.declared.fault.PutFault.TheVariants as puts
+use Rattle.item_making.specs.declared.fault.PutFault.TheVariants as puts
 use Rattle.vault_faults.specs.declared.fault.FindFault.TheVariants as finds
 use Rattle.vault_write.specs.Calls.{InPlace}
 use Rattle.vault_write.proofs.DirectoryPlaced.{last_name, no_names}

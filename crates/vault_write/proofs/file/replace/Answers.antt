@@ -1,7 +1,7 @@
 use Rattle.std.proofs.Common.{Err, refl}
 use Rattle.folder_spec.specs.Seen.{under}
 use Rattle.content_writing.specs.Content.{still_coming}
-use Rattle.content_writing.specs.declared.fault.PutFault.TheVariants as puts
+use Rattle.item_making.specs.declared.fault.PutFault.TheVariants as puts
 use Rattle.vault_spec.specs.Making.{NewFile}
 use Rattle.vault_write.specs.Calls.{InPlace}
 use Rattle.vault_write.specs.Slots.{placing}

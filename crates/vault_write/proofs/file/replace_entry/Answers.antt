@@ -1,7 +1,7 @@
 use Rattle.std.proofs.Common.{◌∙◌, sym, codes}
 use Rattle.folder_spec.proofs.Paths.{child-not_base}
 use Rattle.work_folder.specs.Entries.{stage_path}
-use Rattle.content_writing.specs.declared.fault.PutFault.TheVariants as puts
+use Rattle.item_making.specs.declared.fault.PutFault.TheVariants as puts
 use Rattle.vault_write.specs.Filing.{file_of}
 use Rattle.vault_write.proofs.Filing.{reads_apart}
 use Rattle.vault_write.proofs.Replacing.{replace_failed, replace_free, replace_none, replace_placed, replace_stopped, replaces_allowed}

@@ -1,7 +1,7 @@
 use Rattle.std.proofs.Common.{[], refl, arith}
 use Rattle.content_writing.specs.Content.{still_coming}
-use Rattle.content_writing.specs.Faults.{of_folder}
-use Rattle.content_writing.specs.declared.fault.PutFault.TheVariants as puts
+use Rattle.item_making.specs.Faults.{of_folder}
+use Rattle.item_making.specs.declared.fault.PutFault.TheVariants as puts
 use Rattle.content_writing.proofs.Blaming.{blames_at, folder_blames, folder_undrawn, folder_unread}
 use Rattle.folder_model.proofs.Counting.{rose_since}
 use Rattle.vault_spec.specs.Cryptomator.{content_file}

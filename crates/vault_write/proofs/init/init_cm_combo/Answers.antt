@@ -1,6 +1,6 @@
 use Rattle.std.proofs.Common.{refl, inr}
 use Rattle.cryptomator_conf.specs.Text.{keys_of}
-use Rattle.content_writing.specs.declared.fault.PutFault.TheVariants as puts
+use Rattle.item_making.specs.declared.fault.PutFault.TheVariants as puts
 use Rattle.folder_model.proofs.ByFault.{one_fault}
 use Rattle.vault_write.specs.Founding.{FoundsCm}
 use Rattle.vault_write.proofs.Exits.{at_fault}

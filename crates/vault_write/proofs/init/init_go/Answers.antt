@@ -1,5 +1,5 @@
 use Rattle.std.proofs.Common.{◌∙◌}
-use Rattle.content_writing.specs.declared.fault.PutFault.TheVariants as puts
+use Rattle.item_making.specs.declared.fault.PutFault.TheVariants as puts
 use Rattle.folder_model.proofs.ByFault.{one_fault}
 use Rattle.vault_write.specs.Founding.{FoundsGo}
 use Rattle.vault_write.proofs.Exits.{at_fault}

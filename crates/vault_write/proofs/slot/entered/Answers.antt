@@ -1,6 +1,6 @@
 use Rattle.std.proofs.Common.{subst}
 use Rattle.folder_model.proofs.ByFault.{at_fault}
-use Rattle.content_writing.specs.Faults.{of_find}
+use Rattle.item_making.specs.Faults.{of_find}
 use Rattle.vault_write.specs.Filing.{IsOverFault}
 use Rattle.vault_write.proofs.PutMade.{over_fault}
 use Rattle.vault_write.proofs.slot.entered.Goals as goal

@@ -3,7 +3,7 @@ use Rattle.std.proofs.lemmas.List.{length-take-le, length-drop}
 use Rattle.std.proofs.lemmas.Result.{err_from_is_err_and}
 use Rattle.vault_read.specs.Contents.{still}
 use Rattle.vault_contents.specs.Coming.{held_before}
-use Rattle.content_writing.specs.Faults.{of_cat}
+use Rattle.item_making.specs.Faults.{of_cat}
 use Rattle.vault_contents.specs.Refilling.{Refills}
 use Rattle.vault_contents.proofs.Refills.{refilled, unfilled}
 use Rattle.vault_contents.proofs.held.Held.refill.Goals as goal

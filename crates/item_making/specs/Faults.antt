@@ -7,8 +7,8 @@ use Rattle.vault_faults.specs.declared.fault.CatFault.{CatFault}
 use Rattle.vault_faults.specs.declared.fault.CatFault.TheVariants as cats
 use Rattle.vault_faults.specs.declared.fault.FindFault.{FindFault}
 use Rattle.vault_faults.specs.declared.fault.FindFault.TheVariants as finds
-use Rattle.content_writing.specs.declared.fault.PutFault.{PutFault}
-use Rattle.content_writing.specs.declared.fault.PutFault.TheVariants.{Find, Damaged, Limit, ZeroRandom, Random, Failed, NoMemory}
+use Rattle.item_making.specs.declared.fault.PutFault.{PutFault}
+use Rattle.item_making.specs.declared.fault.PutFault.TheVariants.{Find, Damaged, Limit, ZeroRandom, Random, Failed, NoMemory}
 
 abbrev pub of_folder : FolderFault → PutFault
 of_folder folder.Failed = Failed

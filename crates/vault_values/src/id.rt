@@ -1,7 +1,7 @@
 //! Ids.
 
 ghost use Rattle.std.specs.Prelude.{◌≡◌, IfOk, string_bytes};
-ghost use Rattle.vault_keys.specs.Id.{id_of};
+ghost use Rattle.vault_values.specs.Id.{id_of};
 
 use std::alloc::{AllocError, Global};
 use uuid::{Builder, Uuid};

@@ -1,5 +1,5 @@
-use Rattle.mapped_trees.proofs.Staying.{apart, held, mapped, part}
-use Rattle.mapped_trees.proofs.laws.trees_stay_by_same.Goals as goal
+use Rattle.vault_spec.proofs.MappedStaying.{apart, held, mapped, part}
+use Rattle.vault_spec.proofs.laws.trees_stay_by_same.Goals as goal
 
 pub returns : goal.returns
 returns c =

@@ -14,11 +14,11 @@ use Rattle.vault_spec.specs.Alike.{IsOrderly}
 use Rattle.vault_spec.specs.Anywhere.{KeepsEntered}
 use Rattle.vault_spec.specs.Findings.{IsClean}
 use Rattle.vault_spec.specs.Opens.{opened}
-use Rattle.content_writing.specs.Making.{Placing, Making, format, path_of, is_staged, is_elsewhere, StagesOrPlaces}
-use Rattle.content_writing.specs.Trees.{ShowsVault, KeepsTree, GainsItem, StaysGood, opens_as}
-use Rattle.content_writing.specs.Content.{Ending, Whole}
-use Rattle.content_writing.specs.declared.fault.PutFault.{PutFault}
-use Rattle.content_writing.specs.declared.fault.PutFault.TheVariants as puts
+use Rattle.item_making.specs.Making.{Placing, Making, format, path_of, is_staged, is_elsewhere, StagesOrPlaces}
+use Rattle.item_making.specs.Trees.{ShowsVault, KeepsTree, GainsItem, StaysGood, opens_as}
+use Rattle.item_making.specs.Ending.{Ending, Whole}
+use Rattle.item_making.specs.declared.fault.PutFault.{PutFault}
+use Rattle.item_making.specs.declared.fault.PutFault.TheVariants as puts
 
 -- Where a folder tells its state, the stage is a directory without entries; and the work folder and the vault are apart.
 pub record MayMake (told : Option Told) (work root : Path) : Type 0 where

@@ -31,7 +31,7 @@ pub enum PutFault {
 
 impl From<AllocError> for PutFault {
     ghost use Rattle.std.specs.Prelude.{◌≡◌};
-    ghost use Rattle.content_writing.specs.declared.fault.PutFault.TheVariants.{NoMemory};
+    ghost use Rattle.item_making.specs.declared.fault.PutFault.TheVariants.{NoMemory};
 
     ghost from_gives = { λ _ fault. fault ≡ NoMemory };
 
@@ -42,7 +42,7 @@ impl From<AllocError> for PutFault {
 
 impl From<FolderFault> for PutFault {
     ghost use Rattle.std.specs.Prelude.{◌≡◌};
-    ghost use Rattle.content_writing.specs.Faults.{of_folder};
+    ghost use Rattle.item_making.specs.Faults.{of_folder};
 
     ghost from_gives = { λ fault result. result ≡ of_folder fault };
 
@@ -57,7 +57,7 @@ impl From<FolderFault> for PutFault {
 
 impl From<FindFault> for PutFault {
     ghost use Rattle.std.specs.Prelude.{◌≡◌};
-    ghost use Rattle.content_writing.specs.Faults.{of_find};
+    ghost use Rattle.item_making.specs.Faults.{of_find};
 
     ghost from_gives = { λ fault result. result ≡ of_find fault };
 
@@ -72,7 +72,7 @@ impl From<FindFault> for PutFault {
 
 impl From<CatFault> for PutFault {
     ghost use Rattle.std.specs.Prelude.{◌≡◌};
-    ghost use Rattle.content_writing.specs.Faults.{of_cat};
+    ghost use Rattle.item_making.specs.Faults.{of_cat};
 
     ghost from_gives = { λ fault result. result ≡ of_cat fault };
 
@@ -90,7 +90,7 @@ impl From<CatFault> for PutFault {
 
 impl From<EncodeFault> for PutFault {
     ghost use Rattle.std.specs.Prelude.{◌≡◌};
-    ghost use Rattle.content_writing.specs.Faults.{of_encoding};
+    ghost use Rattle.item_making.specs.Faults.{of_encoding};
 
     ghost from_gives = { λ fault result. result ≡ of_encoding fault };
 

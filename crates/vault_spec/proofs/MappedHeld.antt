@@ -1,6 +1,6 @@
 -- A tree is held in its mapped tree, of which there is one.
 use Rattle.std.proofs.Common.{◌≡◌, ◌≢◌, ◌⊎◌, [], ◌∷◌, refl, sym, ◌∙◌, inl, inr, subst}
-use Rattle.mapped_trees.specs.Trees.{HasNoBroken, IsHeldIn, IsMapped, IsMappedItem, IsPartOf, IsWhole}
+use Rattle.vault_spec.specs.Mapped.{HasNoBroken, IsHeldIn, IsMapped, IsMappedItem, IsPartOf, IsWhole}
 use Rattle.plain_tree.specs.Mapped.{mapped_path}
 use Rattle.plain_tree.specs.Names.{Path}
 use Rattle.plain_tree.specs.declared.name_map.NameMap.{NameMap}

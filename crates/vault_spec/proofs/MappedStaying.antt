@@ -1,8 +1,8 @@
 -- By the rule that names stay, trees stay.
 use Rattle.std.specs.Prelude.{◌↔◌}
 use Rattle.std.proofs.Common.{◌≡◌, ◌≢◌, [], sym, ap, ◌∙◌, inl, inr, subst}
-use Rattle.mapped_trees.proofs.Held.{none_or_item}
-use Rattle.mapped_trees.specs.Trees.{IsHeldIn, IsMapped, IsPartOf, IsWhole, StaysApart}
+use Rattle.vault_spec.proofs.MappedHeld.{none_or_item}
+use Rattle.vault_spec.specs.Mapped.{IsHeldIn, IsMapped, IsPartOf, IsWhole, StaysApart}
 use Rattle.plain_tree.specs.Mapped.{mapped_path}
 use Rattle.plain_tree.specs.Names.{Path}
 use Rattle.plain_tree.specs.declared.name_map.NameMap.TheVariants.{Same}

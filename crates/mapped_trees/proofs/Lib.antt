@@ -1,2 +1,0 @@
-pub mod Held
-mod Staying

@@ -1,2 +1,0 @@
--- The keys of vaults, and the ids that are drawn for them.
-pub mod Id

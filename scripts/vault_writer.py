@@ -37,7 +37,8 @@ class Gocryptfs:
 
         self.master = master
         self.content = AESGCM(derived(b"AES-GCM file content encryption"))
-        self.blocks = Cipher(algorithms.AES(derived(b"EME filename encryption")), modes.ECB()).encryptor()
+        blocks = Cipher(algorithms.AES(derived(b"EME filename encryption")), modes.ECB())
+        self.blocks, self.unblocks = blocks.encryptor(), blocks.decryptor()
         self.count = 0
 
     def drawn(self):
@@ -63,21 +64,26 @@ class Gocryptfs:
     def image(self, block):
         return self.blocks.update(block)
 
+    def unimage(self, block):
+        return self.unblocks.update(block)
+
     @staticmethod
     def double(block):
         number = int.from_bytes(block, "little") << 1
         return (number % 2**128 ^ (0x87 if number >> 128 else 0)).to_bytes(16, "little")
 
-    def eme(self, tweak, plain):
+    def eme(self, tweak, plain, image=None):
+        """Encrypted, or decrypted where the image is that of blocks back."""
+        image = image or self.image
         parts = [plain[i : i + 16] for i in range(0, len(plain), 16)]
         masks = [self.double(self.image(bytes(16)))]
         while len(masks) < len(parts):
             masks.append(self.double(masks[-1]))
-        first = [self.image(xor(part, mask)) for part, mask in zip(parts, masks)]
+        first = [image(xor(part, mask)) for part, mask in zip(parts, masks)]
         before = tweak
         for part in first:
             before = xor(before, part)
-        after = self.image(before)
+        after = image(before)
         mask = xor(before, after)
         second = []
         for part in first[1:]:
@@ -86,7 +92,7 @@ class Gocryptfs:
         head = xor(after, tweak)
         for part in second:
             head = xor(head, part)
-        return b"".join(xor(self.image(part), mask) for part, mask in zip([head] + second, masks))
+        return b"".join(xor(image(part), mask) for part, mask in zip([head] + second, masks))
 
     def name(self, iv, name):
         """The entry of a name, and for a long one the text of its long-name file."""

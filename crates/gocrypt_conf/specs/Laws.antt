@@ -8,7 +8,7 @@ use Rattle.vault_values.specs.declared.keys.GoKeys.{GoKeys}
 use Rattle.gocrypt_conf.specs.Keys.{keys_of}
 use Rattle.gocrypt_conf.specs.MasterKey.{Unlocks}
 use Rattle.gocrypt_conf.specs.Tests.{Answer, ReadsAs}
-use Rattle.gocrypt_conf.specs.Text.{conf_text, made_conf}
+use Rattle.gocrypt_conf.specs.Text.{conf_text, made_conf, Reseals}
 
 -- bytes have one answer at most
 abbrev pub HaveOneAnswer : Type 0
@@ -37,3 +37,17 @@ pub record Returns (pass : List ℕ) (cost : Cost) (drawn : GoDraw) : Type 0 whe
 
 abbrev pub MadeTextReturns : Type 0
 MadeTextReturns = (pass : List ℕ) (cost : Cost) (drawn : GoDraw) → IsCost cost → IsDrawn drawn → Returns pass cost drawn
+
+-- a short text reads as a configuration whose passphrase unlocks the keys
+pub record GivesBack (pass : List ℕ) (keys : GoKeys) (text : List ℕ) : Type 0 where
+  pub conf : GoConf
+  pub short : length text ≤ 65536
+  pub read : ReadsAs text (Ok conf)
+  pub unlocked : Unlocks conf pass keys
+
+-- the text for another passphrase, with a salt of 32 bytes and a nonce of 16, gives back the keys that the old one unlocks
+abbrev pub ResealedTextReturns : Type 0
+ResealedTextReturns =
+    (conf : GoConf) (pass new_pass : List ℕ) (cost : Cost) (salt nonce text : List ℕ) (keys : GoKeys)
+    → IsCost cost → length salt ≡ 32 → IsBytes salt → length nonce ≡ 16 → IsBytes nonce
+    → Unlocks conf pass keys → Reseals conf pass new_pass cost salt nonce text → GivesBack new_pass keys text

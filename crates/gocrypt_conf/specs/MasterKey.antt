@@ -13,9 +13,12 @@ sealed_key key nonce master =
     let s : Sealed = sealed (aes256 key) nonce (replicate 8 0) master in
     nonce ++ s.text ++ s.tag
 
--- the keys are those of a master key that, sealed under the passphrase's key and the nonce that the
--- configuration has, is what the configuration has
+-- the master key, sealed under the passphrase's key and the nonce that the configuration has, is what the configuration has
+abbrev pub Holds : GoConf → List ℕ → List ℕ → Type 0
+Holds conf pass master = sealed_key (unlocking_key pass conf.salt conf.cost) (take 16 conf.sealed) master ≡ conf.sealed
+
+-- the keys are those of the master key that the configuration holds under the passphrase
 pub record Unlocks (conf : GoConf) (pass : List ℕ) (keys : GoKeys) : Type 0 where
   pub master : List ℕ
-  pub seals : sealed_key (unlocking_key pass conf.salt conf.cost) (take 16 conf.sealed) master ≡ conf.sealed
+  pub seals : Holds conf pass master
   pub gives : keys ≡ keys_of master

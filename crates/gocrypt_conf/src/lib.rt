@@ -14,6 +14,6 @@ pub mod unlocking;
 
 pub use conf::{GoConf, GoDraw};
 pub use fault::{GoConfFault, UnlockFault};
-pub use making::make;
+pub use making::{make, reseal};
 pub use reading::read;
 pub use unlocking::unlock;

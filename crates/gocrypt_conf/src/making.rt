@@ -1,11 +1,16 @@
-//! The text of a new configuration.
+//! The texts of a new configuration, and of one with another passphrase.
 
-ghost use Rattle.std.specs.Prelude.{◌≡◌, IfOk, string_bytes};
-ghost use Rattle.gocrypt_conf.specs.Text.{conf_text, made_conf};
+ghost use Rattle.std.specs.Prelude.{◌≡◌, IfOk, Err, string_bytes};
+ghost use Rattle.vault_values.specs.declared.keys.GoKeys.{GoKeys};
+ghost use Rattle.gocrypt_conf.specs.declared.fault.UnlockFault.TheVariants.{WrongPass};
+ghost use Rattle.gocrypt_conf.specs.MasterKey.{Unlocks};
+ghost use Rattle.gocrypt_conf.specs.Text.{Reseals, conf_text, made_conf};
 
-use crate::conf::GoDraw;
+use crate::conf::{GoConf, GoDraw};
+use crate::fault::UnlockFault;
 use crate::keys::unlocking_key;
 use crate::master_key::seal_master;
+use crate::unlocking::master_in;
 use base64::display::Base64Display;
 use base64::engine::general_purpose::STANDARD;
 use kdf_suite::ScryptCost;
@@ -26,6 +31,31 @@ pub fn make(
     let sealed = seal_master(&key, &drawn.nonce, &drawn.master);
     let text = text_of(alloc, &drawn.salt, cost, &sealed)?;
     Ok(text.into_bytes())
+}
+
+/// The text of `gocryptfs.conf` for another passphrase: its master key, sealed under a salt and a nonce that are drawn anew.
+/// Other fields of the old text aren't kept.
+///
+/// It takes the memory of scrypt at the dearer of both costs, 128 · n · r bytes and little more.
+pub fn reseal(
+    alloc: Global,
+    conf: &GoConf,
+    pass: &[u8],
+    new_pass: &[u8],
+    cost: &ScryptCost,
+    salt: &[u8; 32],
+    nonce: &[u8; 16],
+) -> Result<Vec<u8>, UnlockFault>
+    ensures text { IfOk result (λ text. Reseals conf.now pass.now new_pass.now cost.now salt.now nonce.now text.items) }
+    ensures wrong_pass { result ≡ Err WrongPass → (keys : GoKeys) → ¬ Unlocks conf.now pass.now keys }
+{
+    let drawn = GoDraw {
+        master: master_in(alloc, conf, pass)?,
+        salt: *salt,
+        nonce: *nonce,
+    };
+    let text = make(alloc, new_pass, cost, &drawn)?;
+    Ok(text)
 }
 
 // The text of a configuration. Base64 stands in a JSON string as it is.

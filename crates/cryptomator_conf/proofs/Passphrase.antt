@@ -1,6 +1,7 @@
 -- Passphrases as they are used.
-use Rattle.std.proofs.Common.{◌≡◌, ℕ, List, Bool, true, false, cond, encode_utf8_all, refl}
+use Rattle.std.proofs.Common.{◌≡◌, ℕ, List, encode_utf8_all, refl}
 use Rattle.std.specs.Str.{IsUtf8, is_utf8, chars}
+use Rattle.std.proofs.lemmas.Bool.{false_from_ne_true}
 use Rattle.std.proofs.lemmas.Str.{is_utf8-from_IsUtf8, IsUtf8-from_is_utf8}
 use Rattle.unicode_normalization.specs.Forms.{nfc}
 use Rattle.cryptomator_conf.specs.Keys.{passphrase}
@@ -9,10 +10,6 @@ pub passphrase-text : (pass : List ℕ) → IsUtf8 pass → passphrase pass ≡ 
 unfolding passphrase
 passphrase-text pass utf8 = rw (is_utf8-from_IsUtf8 pass utf8) refl
 
-by_test : (test : Bool) (text bytes : List ℕ) → (test ≡ true → ⊥) → cond test text bytes ≡ bytes
-by_test true text bytes not = absurd (not refl)
-by_test false text bytes not = refl
-
 pub passphrase-bytes : (pass : List ℕ) → ¬ IsUtf8 pass → passphrase pass ≡ pass
 unfolding passphrase
-passphrase-bytes pass not = by_test (is_utf8 pass) _ pass (λ test. not (IsUtf8-from_is_utf8 pass test))
+passphrase-bytes pass not = rw (false_from_ne_true (is_utf8 pass) (λ test. not (IsUtf8-from_is_utf8 pass test))) refl

@@ -53,9 +53,6 @@ decoded-encoded UrlSafe m bytes = decoded_of-ok url_safe_no_pad _ _ (decode_of-e
 base64-utf8 : (m : List ℕ) → IsUtf8 (encoded_by Standard m)
 base64-utf8 m = IsUtf8-from_ascii _ (IsAscii-encode_of standard m)
 
-decimal-utf8 : (n : ℕ) → n < 2 ^ 64 → IsUtf8 (decimal n)
-decimal-utf8 n small = IsUtf8-from_ascii _ (IsAscii-decimal n small)
-
 -- scrypt's numbers fit 64 bits
 pub record Fits (n r : ℕ) : Type 0 where
   pub n_fits : n < 2 ^ 64
@@ -90,8 +87,8 @@ utf8-master file tag fits =
     utf8-joined (codes "{\"hmacMasterKey\":\"") (encoded_by Standard file.hmac) (codes "\",\"primaryMasterKey\":\"") (encoded_by Standard file.primary) (codes "\",\"scryptBlockSize\":")
     (decimal file.cost.r) (codes ",\"scryptCostParam\":") (decimal file.cost.n) (codes ",\"scryptSalt\":\"") (encoded_by Standard file.salt) (codes "\",\"version\":999,\"versionMac\":\"")
     (encoded_by Standard tag) (codes "\"}")
-    (IsUtf8-are_ascii _ refl) (base64-utf8 file.hmac) (IsUtf8-are_ascii _ refl) (base64-utf8 file.primary) (IsUtf8-are_ascii _ refl) (decimal-utf8 file.cost.r fits.r_fits) (IsUtf8-are_ascii _ refl)
-    (decimal-utf8 file.cost.n fits.n_fits) (IsUtf8-are_ascii _ refl) (base64-utf8 file.salt) (IsUtf8-are_ascii _ refl) (base64-utf8 tag) (IsUtf8-are_ascii _ refl)
+    (IsUtf8-are_ascii _ refl) (base64-utf8 file.hmac) (IsUtf8-are_ascii _ refl) (base64-utf8 file.primary) (IsUtf8-are_ascii _ refl) (IsUtf8-from_ascii _ (IsAscii-decimal file.cost.r fits.r_fits)) (IsUtf8-are_ascii _ refl)
+    (IsUtf8-from_ascii _ (IsAscii-decimal file.cost.n fits.n_fits)) (IsUtf8-are_ascii _ refl) (base64-utf8 file.salt) (IsUtf8-are_ascii _ refl) (base64-utf8 tag) (IsUtf8-are_ascii _ refl)
 
 fields-master : (hmac_text primary_text salt_text tag_text hmac primary salt : List ℕ) (n r : ℕ) → decoded_by Standard hmac_text ≡ Some hmac → decoded_by Standard primary_text ≡ Some primary
     → decoded_by Standard salt_text ≡ Some salt → length hmac ≡ 40 → length primary ≡ 40
@@ -99,14 +96,12 @@ fields-master : (hmac_text primary_text salt_text tag_text hmac primary salt : L
 fields-master hmac_text primary_text salt_text tag_text hmac primary salt n r is_hmac is_primary is_salt hmac_size primary_size =
     rw (is_salt, is_primary, is_hmac, primary_size, hmac_size) refl
 
-object_on : (bytes : List ℕ) (d : Data) → json_object bytes ≡ Some d → master_fields_in bytes ≡ master_fields_of d
+reads_on : (bytes : List ℕ) (d : Data) (fields : MasterFields) (answer : Result MasterFile CmConfFault) → json_object bytes ≡ Some d → master_fields_of d ≡ Ok fields → Checks fields answer
+    → ReadsMaster bytes answer
 unfolding master_fields_in
-object_on bytes d found = rw found refl
-
-reads_on : (bytes : List ℕ) (fields : MasterFields) (answer : Result MasterFile CmConfFault) → master_fields_in bytes ≡ Ok fields → Checks fields answer → ReadsMaster bytes answer
-reads_on bytes fields answer found checks =
+reads_on bytes d fields answer found fields_found checks =
     let P : Result MasterFields CmConfFault → Type 0 = λ r. MatchResult r (λ f. Checks f answer) (λ fault. answer ≡ Err fault) in
-    subst P (sym found) checks
+    rw found (subst P (sym fields_found) checks)
 
 -- `masterkey.cryptomator` with one part reads back
 pub master_reads_back : (salt primary hmac tag : List ℕ) (n r : ℕ) → IsPlain → IsCost (record { n = n; r = r; p = 1 }) → length primary ≡ 40 → length hmac ≡ 40
@@ -118,7 +113,7 @@ master_reads_back salt primary hmac tag n r plain cost primary_size hmac_size pr
     let object = object_in (master_text file tag) _ (utf8-master file tag fits) (read-master file tag plain fits hmac_bytes primary_bytes salt_bytes tag_bytes) in
     let fields = fields-master (encoded_by Standard hmac) (encoded_by Standard primary) (encoded_by Standard salt) (encoded_by Standard tag) hmac primary salt n r
     (decoded-encoded Standard hmac hmac_bytes) (decoded-encoded Standard primary primary_bytes) (decoded-encoded Standard salt salt_bytes) hmac_size primary_size in
-    reads_on (master_text file tag) _ (Ok file) (object_on (master_text file tag) _ object ∙ fields) (inl (cost, refl))
+    reads_on (master_text file tag) _ _ (Ok file) object fields (inl (cost, refl))
 
 -- a cost with one part
 pub one_part : (cost : Cost) → IsCost cost → IsCost (record { n = cost.n; r = cost.r; p = 1 })

@@ -14,7 +14,7 @@ use Rattle.vault_values.specs.Id.{id_of}
 use Rattle.cryptomator_conf.specs.Keys.{AreKeys, Unlocks}
 use Rattle.cryptomator_conf.specs.Master.{ReadsMaster}
 use Rattle.cryptomator_conf.specs.Signature.{signature_of}
-use Rattle.cryptomator_conf.specs.Text.{keys_of, made_master, master_text, signed_text, vault_text, version_bytes, version_mac}
+use Rattle.cryptomator_conf.specs.Text.{Rewraps, keys_of, made_master, master_text, signed_text, vault_text, version_bytes, version_mac}
 use Rattle.cryptomator_conf.specs.Vault.{vault_in}
 
 -- the bytes of `masterkey.cryptomator` have one answer at most
@@ -58,3 +58,17 @@ pub record Return (pass : List ℕ) (cost : Cost) (combo : Combo) (drawn : CmDra
 
 abbrev pub MadeFilesReturn : Type 0
 MadeFilesReturn = (pass : List ℕ) (cost : Cost) (combo : Combo) (drawn : CmDraw) → IsCost cost → IsDrawn drawn → Return pass cost combo drawn
+
+-- a short text reads as a file whose passphrase unlocks the keys
+pub record GivesBack (pass : List ℕ) (keys : CmKeys) (text : List ℕ) : Type 0 where
+  pub file : MasterFile
+  pub short : length text ≤ 65536
+  pub read : ReadsMaster text (Ok file)
+  pub unlocked : Unlocks file pass keys
+
+-- the text for another passphrase, with a salt of eight bytes, gives back the keys that the old one unlocks
+abbrev pub RewrappedTextReturns : Type 0
+RewrappedTextReturns =
+    (file : MasterFile) (pass new_pass : List ℕ) (cost : Cost) (salt text : List ℕ) (keys : CmKeys)
+    → IsCost cost → length salt ≡ 8 → IsBytes salt → AreKeys keys
+    → Unlocks file pass keys → Rewraps file pass new_pass cost salt text → GivesBack new_pass keys text

@@ -15,7 +15,7 @@ pub mod vault;
 
 pub use conf::{Alg, CmDraw, CmFiles, Combo, MasterFile, VaultFile};
 pub use fault::{BadSignature, CmConfFault, UnlockFault};
-pub use making::{make, make_combo};
+pub use making::{make, make_combo, rewrap};
 pub use master::read_master;
 pub use signing::check_signature;
 pub use unlocking::unlock;

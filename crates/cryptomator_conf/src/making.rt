@@ -1,11 +1,16 @@
-//! The texts of new configuration files.
+//! The texts of new configuration files, and of one with another passphrase.
 
-ghost use Rattle.std.specs.Prelude.{◌≡◌, IfOk, string_bytes};
-ghost use Rattle.cryptomator_conf.specs.Text.{made_master, master_text, payload_text, signed_text, vault_text, version_mac, version_bytes};
+ghost use Rattle.std.specs.Prelude.{◌≡◌, IfOk, Err, string_bytes};
+ghost use Rattle.vault_values.specs.declared.keys.CmKeys.{CmKeys};
+ghost use Rattle.cryptomator_conf.specs.declared.fault.UnlockFault.TheVariants.{WrongPass};
+ghost use Rattle.cryptomator_conf.specs.Keys.{AreKeys, Unlocks};
+ghost use Rattle.cryptomator_conf.specs.Text.{Rewraps, made_master, master_of, master_text, payload_text, signed_text, vault_text, version_mac, version_bytes};
 
-use crate::conf::{CmDraw, CmFiles, Combo};
+use crate::conf::{CmDraw, CmFiles, Combo, MasterFile};
+use crate::fault::UnlockFault;
 use crate::keys::wrapping_key;
 use crate::signing::signing_key;
+use crate::unlocking::unlock;
 use aes_lanes::Key256;
 use base64::display::Base64Display;
 use base64::engine::general_purpose::{STANDARD, URL_SAFE_NO_PAD};
@@ -48,16 +53,54 @@ pub fn make_combo(
         ≡ master_text (made_master pass.now cost.now drawn.now) (version_mac drawn.now.mac version_bytes)) }
     ensures vault { IfOk result (λ files. files.vault ≡ vault_text combo drawn.now) }
 {
-    let cost = one_part(cost);
-    let key = Key256::new(&wrapping_key(alloc, pass, &drawn.salt, &cost)?);
-    let primary = wrap_key(&key, &drawn.enc);
-    let hmac = wrap_key(&key, &drawn.mac);
-    let tag = hmac256(&drawn.mac, &VERSION.to_be_bytes());
-    let master = master_text(alloc, &cost, &drawn.salt, &primary, &hmac, &tag)?;
+    let keys = CmKeys {
+        enc: drawn.enc,
+        mac: drawn.mac,
+    };
+    let master = wrapped_text(alloc, pass, cost, &drawn.salt, &keys)?;
     Ok(CmFiles {
         master: Bytes::new(master.into_bytes()),
         vault: Bytes::new(vault_text(alloc, combo, drawn)?.into_bytes()),
     })
+}
+
+/// The text of `masterkey.cryptomator` for another passphrase: its two keys, wrapped under a salt that is drawn anew, at the
+/// cost's n and r, with one part. `vault.cryptomator` stays as it is.
+///
+/// It takes the memory of scrypt at the dearer of both costs, 128 · n · r bytes and little more.
+pub fn rewrap(
+    alloc: Global,
+    file: &MasterFile,
+    pass: &[u8],
+    new_pass: &[u8],
+    cost: &ScryptCost,
+    salt: &[u8; 8],
+) -> Result<Vec<u8>, UnlockFault>
+    ensures text { IfOk result (λ text. Rewraps file.now pass.now new_pass.now cost.now salt.now text.items) }
+    ensures wrong_pass { result ≡ Err WrongPass → (keys : CmKeys) → AreKeys keys → ¬ Unlocks file.now pass.now keys }
+{
+    let keys = unlock(alloc, file, pass)?;
+    let text = wrapped_text(alloc, new_pass, cost, salt, &keys)?;
+    Ok(text.into_bytes())
+}
+
+// The text of `masterkey.cryptomator` with these keys, wrapped under the passphrase's key.
+fn wrapped_text(
+    alloc: Global,
+    pass: &[u8],
+    cost: &ScryptCost,
+    salt: &[u8; 8],
+    keys: &CmKeys,
+) -> Result<String, AllocError>
+    ensures { IfOk result (λ text. string_bytes text
+        ≡ master_text (master_of pass.now cost.now salt.now keys.now) (version_mac keys.now.mac version_bytes)) }
+{
+    let cost = one_part(cost);
+    let key = Key256::new(&wrapping_key(alloc, pass, salt, &cost)?);
+    let primary = wrap_key(&key, &keys.enc);
+    let hmac = wrap_key(&key, &keys.mac);
+    let tag = hmac256(&keys.mac, &VERSION.to_be_bytes());
+    master_text(alloc, &cost, salt, &primary, &hmac, &tag)
 }
 
 // The same cost with one part.

@@ -99,9 +99,7 @@ fn call_changing(stage: &mut Stage, verb: &str, words: &str, handed: &mut Handed
         | "stage_file"
         | "publish_folder"
         | "place_folder"
-        | "publish_file"
         | "replace_file"
-        | "replace_with_side_file"
         | "remove_below"
         | "remove_all" => call_staging(stage, verb, words),
         "init_go"

@@ -17,9 +17,10 @@ use Rattle.folder_spec.specs.declared.FolderFault.{FolderFault}
 use Rattle.folder_model.specs.Answers.{Answers, Counts}
 use Rattle.folder_model.proofs.Counting.{never_falls, counts_at_fault}
 use Rattle.folder_staging.specs.declared.removal.RemovalFault.{RemovalFault}
-use Rattle.folder_staging.specs.declared.removal.RemovalFault.TheVariants.{Depth}
+use Rattle.folder_staging.specs.declared.removal.RemovalFault.TheVariants.{Depth, Failed}
 use Rattle.folder_staging.specs.Removal.{from, below_only, IsWithin, IsRemoving, IsBare, RemovesAs, Removes, fault_of}
-use Rattle.folder_staging.proofs.Removals.{Removing, removing_so_far, run_none, run_then, run_in, stays_gone, was_seen, bare_below, done_exit, fault_exit, none_from, folder_fault_as, risen_by}
+use Rattle.folder_staging.proofs.Blame.{risen_by}
+use Rattle.folder_staging.proofs.Removals.{Removing, removing_so_far, run_none, run_then, run_in, stays_gone, was_seen, bare_below, done_exit, fault_exit, none_from, folder_fault_as}
 
 -- Of the directory's items, as they were at a, those before the index are gone at b, and what stands at the others is as it was.
 pub record SoFar (at : Path) (most : ℕ) (items : List Item) (index : ℕ) (a b : Told) : Type 0 where
@@ -226,7 +227,7 @@ listing_exit at most t u n0 n1 fault same directory answer counts = record {
   bare = tt;
   answer = λ v is. folder_fault_as (below_only at most) v fault;
   grows = never_falls {T = List Item} t n0 n1 (Err fault) counts;
-  failed = λ e. risen_by n0 n1 fault
+  failed = λ e. risen_by fault_of Failed (λ none. cc none) n0 n1 fault
       (counts_at_fault (List Item) (Unit {0}) t n0 n0 n1 (λ v. v at ≡ Folder) (λ v items. IsListing v at items) fault (omega arith) directory answer counts) (cc e);
 }
 

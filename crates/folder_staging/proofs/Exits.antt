@@ -1,21 +1,21 @@
 -- What each exit of a call that stages and publishes says.
-use Rattle.std.proofs.Common.{◌≡◌, ◌≢◌, ◌⊎◌, ℕ, List, [], ◌∷◌, Option, Some, None, Result, Ok, Err, OnOk, IfSome, refl, sym, ap, ◌∙◌, subst, inl, inr}
+use Rattle.std.proofs.Common.{◌≡◌, ◌≢◌, ◌⊎◌, ℕ, List, [], ◌∷◌, Option, Some, None, Result, Ok, IfSome, refl, sym, ap, ◌∙◌, subst, inl, inr}
 use Rattle.folder_spec.specs.declared.Kind.{Kind}
 use Rattle.folder_spec.specs.declared.Kind.TheVariants.{File}
 use Rattle.folder_spec.specs.declared.FolderFault.{FolderFault}
+use Rattle.folder_spec.specs.declared.Spot.TheVariants.{FileNode}
 use Rattle.folder_spec.specs.Path.{Path, below}
-use Rattle.folder_spec.specs.State.{present, HasFile, IsSound}
+use Rattle.folder_spec.specs.State.{State, present, HasFile, IsSound}
 use Rattle.folder_spec.specs.Event.{Rename, IsFree, IsFilePlace, Allowed, Told, Changes, FromTo}
+use Rattle.folder_spec.specs.Region.{IsAsBefore, apart_from}
 use Rattle.folder_spec.specs.View.{Found, NoEntry, Folder, FileOf, Special, kind_found}
-use Rattle.folder_spec.specs.Seen.{IfSeen, IsSeen, ShowsFile, ShowsFilePlace, ShowsFree, seen}
-use Rattle.folder_spec.proofs.Seen.{free_seen, has_file_seen, file_place_seen, file_place_shown, may_call_allowed, seen_of}
+use Rattle.folder_spec.specs.Seen.{IfSeen, IsSeen, ShowsFilePlace, seen}
+use Rattle.folder_spec.proofs.Seen.{free_seen, has_file_seen, file_place_seen}
 use Rattle.folder_spec.specs.Replace.{IsNewFile}
-use Rattle.folder_spec.proofs.Tellings.{from_to_both, from_to_more}
+use Rattle.folder_spec.proofs.Tellings.{from_to_both}
 use Rattle.folder_spec.proofs.Stages.{Staging, IsStagedFile, Replacing, IsRenamed, staging_so_far, place_stays, renaming_from, renamed_from}
 use Rattle.folder_model.specs.Answers.{Answers}
-use Rattle.folder_staging.specs.Places.{ArePlacesApart, MayPublish, MayPublishStaged}
-use Rattle.folder_staging.specs.Published.{IsPublished, PublishesStaged}
-use Rattle.folder_staging.proofs.Pieces.{new_file_seen}
+use Rattle.folder_staging.specs.Places.{MayPublish}
 
 -- what stands where a call found a file, or none
 pub found_file : (t u : Option Told) (at : Path) (kind : Kind) → kind ≡ File → u ≡ t → Answers t (λ v. Unit {0}) (λ v k. k ≡ kind_found (v at)) (Ok kind)
@@ -40,60 +40,39 @@ found_free (Some a) u at kind apart same answer place =
       | inr file ↦ absurd (apart ((answer (seen a.state) refl).1 ∙ ap kind_found file.1))
     ])
 
--- A staged file is published.
-pub staged_allowed : (t : Option Told) (staged at : Path) → MayPublishStaged t staged at → (a : Told) → t ≡ Some a → Allowed a.state (Rename staged at)
-staged_allowed t staged at may a is =
-    let shown : IsSeen t (seen a.state) = seen_of t a is in
-    let file : ShowsFile (seen a.state) staged = may.there (seen a.state) shown in
-    may_call_allowed a.state (Rename staged at) (
-      may.below_base,
-      λ none. (let both : NoEntry ≡ FileOf (file.0) = sym none ∙ file.1 in cc),
-      may.apart.apart,
-      elim (may.place (seen a.state) shown) as (λ _. ShowsFree (seen a.state) at ⊎ (ShowsFile (seen a.state) staged × ShowsFile (seen a.state) at)) [
-        | inl free ↦ inl free
-        | inr there ↦ inr (file, there)
-      ],
-    )
+-- A staged file may be renamed onto a place for one.
+pub rename_allowed : (staged at : Path) (bytes : List ℕ) (s0 s : State) → staged ≢ [] → below staged at ≡ None → IsAsBefore (apart_from staged) s0 s
+    → IsNewFile bytes s0 s (present s staged) → IsFilePlace (present s0) at → Allowed s (Rename staged at)
+rename_allowed staged at bytes s0 s some apart others new place = (
+  some,
+  λ none. (let file : present s staged ≡ FileNode new.number = new.is in cc),
+  apart,
+  elim (place_stays staged at bytes apart s0 s others place) as (λ _. IsFree (present s) at ⊎ (HasFile (present s) staged × HasFile (present s) at)) [
+    | inl free ↦ inl free
+    | inr there ↦ inr ((new.number, new.is), there)
+  ],
+)
 
--- as it may be, once it is staged
-pub may_publish_staged : (staged at : Path) (bytes : List ℕ) (t0 t1 : Option Told) → MayPublish t0 staged at → FromTo (Staging (bytes ∷ []) staged) t0 t1
-    → FromTo (λ a b. IsNewFile bytes a.state b.state (present b.state staged)) t0 t1 → MayPublishStaged t1 staged at
-may_publish_staged staged at bytes t0 t1 may stages new = record {
-  below_base = may.stage.below_base;
-  there = λ v is. (bytes, new_file_seen staged (record { now = bytes; kept = bytes }) t0 t1 new v is);
-  place = file_place_shown t1 at (kept t0 t1 stages (file_place_seen t0 at may.place));
-  apart = may.apart;
-}
-  where
-    kept : (t0 t1 : Option Told) → FromTo (Staging (bytes ∷ []) staged) t0 t1 → IfSome t0 (λ a. IsFilePlace (present a.state) at) → IfSome t1 (λ a. IsFilePlace (present a.state) at)
-    kept None None stages place = tt
-    kept (Some a) (Some b) stages place = place_stays staged at bytes may.apart.apart a.state b.state (staging_so_far (bytes ∷ []) staged a b stages).others place
-    kept None (Some b) stages place = absurd stages
-    kept (Some a) None stages place = absurd stages
+-- A file is staged, and renamed onto its place.
+module _ (staged at : Path) (bytes : List ℕ) (t0 t1 : Option Told) (may : MayPublish t0 staged at)
+    (sound : (a : Told) → t0 ≡ Some a → IsSound a.state) (sound_now : (a : Told) → t1 ≡ Some a → IsSound a.state) (stages : FromTo (Staging (bytes ∷ []) staged) t0 t1)
+    (new : FromTo (λ a b. IsNewFile bytes a.state b.state (present b.state staged)) t0 t1) where
+  so_far : FromTo (IsStagedFile staged bytes) t0 t1
+  so_far = from_to_both (Staging (bytes ∷ []) staged) (λ a b. IsNewFile bytes a.state b.state (present b.state staged)) t0 t1 stages new
 
-module _ (staged at : Path) (bytes : List ℕ) (apart : below staged at ≡ None) where
-  published_from : (t0 t1 t2 : Option Told) (result : Result (Unit {0}) FolderFault) → below at staged ≡ None
-      → ((a : Told) → t0 ≡ Some a → IsSound a.state) → ((a : Told) → t1 ≡ Some a → IsSound a.state) → ((a : Told) → t1 ≡ Some a → Allowed a.state (Rename staged at))
-      → FromTo (IsStagedFile staged bytes) t0 t1 → Changes (Rename staged at) t1 t2 result
-      → OnOk result (FromTo (λ a b. IsPublished staged at bytes a.state b.state) t0 t2)
-  published_from t0 t1 t2 (Err fault) beside sound sound_now allowed so_far changes = tt
-  published_from t0 t1 t2 (Ok done) beside sound sound_now allowed so_far changes =
-      from_to_more (IsRenamed staged at bytes) (λ a b. IsPublished staged at bytes a.state b.state) t0 t2
-      (λ a b is h. record { published = h.published; new = h.new; gone = h.gone })
-      (renamed_from staged at bytes apart t0 t1 t2 beside sound sound_now allowed so_far changes)
+  pub staged_allowed : (a : Told) → t1 ≡ Some a → Allowed a.state (Rename staged at)
+  staged_allowed = by_told t0 t1 so_far (file_place_seen t0 at may.place)
+    where
+      by_told : (t u : Option Told) → FromTo (IsStagedFile staged bytes) t u → IfSome t (λ a. IsFilePlace (present a.state) at) → (a : Told) → u ≡ Some a → Allowed a.state (Rename staged at)
+      by_told (Some a) (Some b) h place c is =
+          let same : b ≡ c = cc is in
+          subst (λ (d : Told). Allowed d.state (Rename staged at)) same
+          (rename_allowed staged at bytes a.state b.state may.stage.below_base may.apart.apart (staging_so_far (bytes ∷ []) staged a b h.0).others h.1 place)
+      by_told None (Some b) h place c is = absurd h
+      by_told t None h place c is = cc is
 
-  pub renamed_of : (t0 t1 : Option Told) → FromTo (Replacing staged at bytes) t0 t1 → FromTo (λ a b. IsPublished staged at bytes a.state b.state) t0 t1
-      → FromTo (IsRenamed staged at bytes) t0 t1
-  renamed_of t0 t1 went published =
-      from_to_more (λ a b. Replacing staged at bytes a b × IsPublished staged at bytes a.state b.state) (IsRenamed staged at bytes) t0 t1
-      (λ a b is h. record { went = h.0; published = h.1.published; new = h.1.new; gone = h.1.gone })
-      (from_to_both (Replacing staged at bytes) (λ a b. IsPublished staged at bytes a.state b.state) t0 t1 went published)
+  pub staged_renames : (t2 : Option Told) (result : Result (Unit {0}) FolderFault) → Changes (Rename staged at) t1 t2 result → FromTo (Replacing staged at bytes) t0 t2
+  staged_renames t2 result changes = renaming_from staged at bytes may.apart.apart t0 t1 t2 result may.apart.beside sound sound_now staged_allowed so_far changes
 
-pub publishes_staged : (staged at : Path) (t u : Option Told) (result : Result (Unit {0}) FolderFault) → ArePlacesApart staged at → ((a : Told) → t ≡ Some a → IsSound a.state)
-    → ((a : Told) → t ≡ Some a → Allowed a.state (Rename staged at)) → Changes (Rename staged at) t u result → PublishesStaged staged at t u result
-publishes_staged staged at t u result apart sound_now allowed changes before bytes sound stages new =
-    let so_far : FromTo (IsStagedFile staged bytes) before t =
-    from_to_both (Staging (bytes ∷ []) staged) (λ a b. IsNewFile bytes a.state b.state (present b.state staged)) before t stages new in (
-      renaming_from staged at bytes apart.apart before t u result apart.beside sound sound_now allowed so_far changes,
-      published_from staged at bytes apart.apart before t u result apart.beside sound sound_now allowed so_far changes,
-    )
+  pub staged_renamed : (t2 : Option Told) → Changes (Rename staged at) t1 t2 (Ok tt) → FromTo (IsRenamed staged at bytes) t0 t2
+  staged_renamed t2 changes = renamed_from staged at bytes may.apart.apart t0 t1 t2 may.apart.beside sound sound_now staged_allowed so_far changes

@@ -1,6 +1,6 @@
+pub mod Blame
 mod Pieces
 mod Exits
-mod Pairs
 mod Wholes
 mod Removals
 mod Emptying

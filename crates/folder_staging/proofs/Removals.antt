@@ -28,6 +28,7 @@ use Rattle.folder_spec.proofs.Edits.{nothing_below_file}
 use Rattle.folder_staging.specs.declared.removal.RemovalFault.{RemovalFault}
 use Rattle.folder_staging.specs.declared.removal.RemovalFault.TheVariants.{Depth, Other, Failed, NoMemory}
 use Rattle.folder_staging.specs.Removal.{Reach, from, below_only, IsWithin, IsThinned, IsRemoving, RemovesWithin, IsBare, RemovesAs, Removes, fault_of, ended_as}
+use Rattle.folder_staging.proofs.Blame.{risen_by}
 
 -- Tables.
 thinned_none : (r : Reach) (t : Table) → IsThinned r t t
@@ -223,11 +224,6 @@ removed_seen at call a b sound puts steps =
     put_there = rw (path_eq-same at) refl
 
 -- What the exits of a removal say.
-pub risen_by : (before after : ℕ) (fault : FolderFault) → CountsAbove {T = Unit {0}} before after (Err fault) → fault_of fault ≡ Failed → CountRose before after
-risen_by before after folder.Failed counts e = counts.1
-risen_by before after folder.Refused counts e = counts.1
-risen_by before after folder.NoMemory counts e = cc e
-
 pub folder_fault_as : (r : Reach) (v : View) (fault : FolderFault) → RemovesAs r v (Err (fault_of fault))
 folder_fault_as r v folder.Failed = tt
 folder_fault_as r v folder.Refused = tt
@@ -306,7 +302,7 @@ call_exit at most call t u n0 n1 (Err fault) within allowed gone sound changes c
   bare = tt;
   answer = λ v is. folder_fault_as (from at most) v fault;
   grows = never_falls {T = Unit {0}} t n0 n1 (Err fault) counts;
-  failed = λ e. risen_by n0 n1 fault (counts_after call t u n0 n0 n1 (Err fault) (omega arith) allowed changes counts) (cc e);
+  failed = λ e. risen_by fault_of Failed (λ none. cc none) n0 n1 fault (counts_after call t u n0 n0 n1 (Err fault) (omega arith) allowed changes counts) (cc e);
 }
 call_exit at most call t u n0 n1 (Ok done) within allowed gone sound changes counts =
     done_exit (from at most) t u n0 n1
@@ -408,7 +404,7 @@ kind_exit r at t u n0 n1 fault same answer counts = record {
   bare = tt;
   answer = λ v is. folder_fault_as r v fault;
   grows = never_falls {T = Kind} t n0 n1 (Err fault) counts;
-  failed = λ e. risen_by n0 n1 fault
+  failed = λ e. risen_by fault_of Failed (λ none. cc none) n0 n1 fault
       (counts_at_fault Kind (Unit {0}) t n0 n0 n1 (λ v. Unit {0}) (λ v k. k ≡ kind_found (v at)) fault (omega arith) (λ v is. tt) answer counts) (cc e);
 }
 

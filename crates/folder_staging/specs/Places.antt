@@ -2,7 +2,7 @@
 use Rattle.std.specs.Prelude.{◌≡◌, ◌≢◌, Option, [], None}
 use Rattle.folder_spec.specs.Path.{Path, below}
 use Rattle.folder_spec.specs.Event.{Told}
-use Rattle.folder_spec.specs.Seen.{IfSeen, ShowsFile, ShowsFilePlace}
+use Rattle.folder_spec.specs.Seen.{IfSeen, ShowsFilePlace}
 
 -- a file is seen there, or may be made there
 abbrev pub IsPlace : Option Told → Path → Type 0
@@ -21,12 +21,5 @@ pub record ArePlacesApart (staged at : Path) : Type 0 where
 -- A file can be written at the one place and put at the other.
 pub record MayPublish (told : Option Told) (staged at : Path) : Type 0 where
   pub stage : IsStage told staged
-  pub place : IsPlace told at
-  pub apart : ArePlacesApart staged at
-
--- A file that is staged at the one place can be put at the other.
-pub record MayPublishStaged (told : Option Told) (staged at : Path) : Type 0 where
-  pub below_base : staged ≢ []
-  pub there : IfSeen told (λ v. ShowsFile v staged)
   pub place : IsPlace told at
   pub apart : ArePlacesApart staged at

@@ -13,6 +13,6 @@ pub mod removal;
 pub mod staging;
 
 pub use folders::{begin_folder, place_folder, publish_folder};
-pub use publishing::{publish_file, publish_staged_file, replace_file, replace_with_side_file};
+pub use publishing::replace_file;
 pub use removal::{RemovalFault, remove_all, remove_below};
 pub use staging::{add_piece, begin_file, clear, finish_file, is_file_place, stage_file};

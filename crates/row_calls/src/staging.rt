@@ -7,8 +7,8 @@ use crate::faults::path_fault;
 use crate::folders::say_folder;
 use folder_model::FPath;
 use folder_staging::{
-    RemovalFault, begin_folder, place_folder, publish_file, publish_folder, remove_all,
-    remove_below, replace_file, replace_with_side_file, stage_file,
+    RemovalFault, begin_folder, place_folder, publish_folder, remove_all, remove_below,
+    replace_file, stage_file,
 };
 use row_playing::{Stage, Stop};
 use row_words::cut;
@@ -75,53 +75,13 @@ fn call_publish(stage: &mut Stage, verb: &str, staged: &FPath, at: &FPath, bytes
     let answer = match verb {
         "publish_folder" => publish_folder(&mut stage.folder, staged, at),
         "place_folder" => place_folder(&mut stage.folder, staged, at),
-        "publish_file" => publish_file(&mut stage.folder, staged, at, bytes),
         _ => replace_file(&mut stage.folder, staged, at, bytes),
     };
     say_folder(stage, answer);
 }
 
-// Puts a side file and then a file in their places.
-fn replace_both(
-    stage: &mut Stage,
-    staged: &FPath,
-    side: &FPath,
-    side_bytes: &[u8],
-    at: &FPath,
-    bytes: &[u8],
-) {
-    if staged.depth() == 0
-        || !are_places_apart(staged, side)
-        || !are_places_apart(staged, at)
-        || !is_not_below(side, at)
-    {
-        return stage.stop(Stop::Line);
-    }
-    let folder = &mut stage.folder;
-    let answer = replace_with_side_file(folder, staged, side, side_bytes, at, bytes);
-    say_folder(stage, answer);
-}
-
-// Puts a side file and then a file in their places: `STAGED SIDE BYTES AT BYTES`.
-fn call_side_file(stage: &mut Stage, words: &str) {
-    let (staged, words) = cut(words);
-    let (side, words) = cut(words);
-    let (side_bytes, words) = cut(words);
-    let (at, bytes) = cut(words);
-    let staged = stage.path(staged);
-    let side = stage.path(side);
-    let at = stage.path(at);
-    let side_bytes = stage.bytes(side_bytes);
-    let bytes = stage.bytes(bytes);
-    let (side_bytes, bytes) = (side_bytes.as_slice(), bytes.as_slice());
-    replace_both(stage, &staged, &side, side_bytes, &at, bytes);
-}
-
 /// Plays a line that stages, publishes or removes.
 pub fn call_staging(stage: &mut Stage, verb: &str, words: &str) {
-    if verb == "replace_with_side_file" {
-        return call_side_file(stage, words);
-    }
     let (first, rest) = cut(words);
     let first = stage.path(first);
     match verb {

@@ -5,3 +5,4 @@ mod Steps
 mod Restaged
 mod Passed
 mod Entered
+mod Settings

@@ -4,3 +4,4 @@ pub mod Picking
 pub mod Changing
 pub mod Entering
 pub mod Faults
+pub mod Setting

@@ -1,13 +1,15 @@
 -- The characters of texts and of long names.
-use Rattle.std.proofs.Common.{◌≡◌, ℕ, ◌+◌, ◌*◌, ◌/◌, List, length, take, drop, IsTrue, codes, refl, ap, ◌∙◌, arith, length-append}
+use Rattle.std.proofs.Common.{◌≡◌, ◌==◌, ℕ, ◌+◌, ◌*◌, ◌/◌, List, length, take, drop, IsTrue, codes, refl, ap, ◌∙◌, arith, length-append}
 use Rattle.std.specs.List.{list_all}
+use Rattle.std.proofs.lemmas.Bool.{and_from}
 use Rattle.std.proofs.lemmas.List.{take_at, drop_at}
+use Rattle.std.proofs.lemmas.Slice.Eq.{bytes_eq-Decides}
 use Rattle.sha2.specs.Sha256.{sha256}
 use Rattle.base64.specs.GeneralPurpose.{IsBytes}
 use Rattle.json_fields.specs.Base64.{is_base64url}
 use Rattle.eme_mode.specs.Eme.{eme256}
 use Rattle.plain_tree.specs.Names.{is_name}
-use Rattle.vault_names.specs.Gocryptfs.{padded_bytes, blocks_of, bytes_of, base64url, go_text, long_name}
+use Rattle.vault_names.specs.Gocryptfs.{padded_bytes, blocks_of, bytes_of, base64url, go_text, is_long_name, long_name}
 use Rattle.vault_names.proofs.Blocks.{IsBytes-bytes_of, length-bytes_of}
 use Rattle.vault_names.proofs.Encryption.{AreEme, AreBlocksOf-text, length-encrypted}
 
@@ -50,3 +52,9 @@ unfolding long_name
 characters-long_name alphabet digests text =
     ap (list_all is_base64url) (drop_at (codes "gocryptfs.longname.") (base64url (sha256 text)) 19 refl)
     ∙ alphabet.characters (sha256 text) (digests.bytes text)
+
+pub form-long_name : IsOfAlphabet → AreDigests → (text : List ℕ) → IsTrue (is_long_name (long_name text))
+form-long_name alphabet digests text =
+    and_from _ _
+    (and_from _ _ (ap (λ n. n == 62) (length-long_name alphabet digests text)) ((bytes_eq-Decides (take 19 (long_name text)) (codes "gocryptfs.longname.")).1 (take-long_name text)))
+    (characters-long_name alphabet digests text)

@@ -1,18 +1,19 @@
 -- The sizes and characters of Cryptomator's texts.
-use Rattle.std.proofs.Common.{◌≡◌, ℕ, zero, suc, ◌+◌, ◌*◌, ◌/◌, true, List, [], ◌∷◌, ◌++◌, length, replicate, codes, IsTrue, refl, sym, ap, ◌∙◌, arith, lit<, length-append, append-nil}
+use Rattle.std.proofs.Common.{◌≡◌, ◌==◌, ℕ, zero, suc, ◌+◌, ◌*◌, ◌/◌, true, List, [], ◌∷◌, ◌++◌, length, take, drop, replicate, codes, IsTrue, refl, sym, ap, ◌∙◌, arith, lit<, length-append, append-nil, append_assoc}
 use Rattle.std.specs.List.{list_all}
 use Rattle.std.specs.Prelude.{slice_index}
 use Rattle.std.specs.Int.{bytes_high_first}
 use Rattle.std.proofs.lemmas.Bool.{and_from, and_parts, or_left}
-use Rattle.std.proofs.lemmas.List.{length-replicate}
+use Rattle.std.proofs.lemmas.List.{length-replicate, take_at, drop_at}
 use Rattle.std.proofs.lemmas.List.Folds.{list_all-append}
+use Rattle.std.proofs.lemmas.Slice.Eq.{bytes_eq-Decides}
 use Rattle.sha1.specs.Sha1.{sha1, digest_bytes}
 use Rattle.base64.specs.Engines.{url_safe}
 use Rattle.base64.specs.GeneralPurpose.{IsBytes}
 use Rattle.base64.specs.Rfc4648.{encode_symbols, padding_len}
 use Rattle.json_fields.specs.Base64.{is_base64url}
 use Rattle.vault_names.specs.Gocryptfs.{base64url}
-use Rattle.vault_names.specs.Cryptomator.{cm_folder_of, cm_long_name, cm_text, siv_under, padded_base64url, is_padded_base64url, IsPlainUpTo}
+use Rattle.vault_names.specs.Cryptomator.{cm_folder_of, cm_long_name, cm_text, is_cm_long_name, siv_under, padded_base64url, is_padded_base64url, IsPlainUpTo}
 use Rattle.vault_values.specs.declared.keys.CmKeys.{CmKeys}
 use Rattle.vault_names.specs.Base32.{is_base32}
 use Rattle.vault_names.proofs.Blocks.{IsBytes-append}
@@ -112,6 +113,27 @@ length-cm_long_name alphabet text =
 pub plain-cm_long_name : IsOfAlphabet → (text : List ℕ) → IsPlainUpTo (codes ".c9s") (cm_long_name text)
 unfolding cm_long_name
 plain-cm_long_name alphabet text = plain-ended alphabet (sha1 text) (codes ".c9s") _ (IsBytes-sha1 text) refl
+
+-- as the digest has twenty bytes, one `=` stands behind its characters
+cm_long_name-is : (text : List ℕ) → cm_long_name text ≡ base64url (sha1 text) ++ codes "=.c9s"
+unfolding cm_long_name padding_of
+cm_long_name-is text = ap (λ padded. padded ++ codes ".c9s") (padded-is (sha1 text) ∙ ap (λ n. base64url (sha1 text) ++ replicate (padding_len n) 61) (length-sha1 text))
+    ∙ append_assoc (base64url (sha1 text)) (codes "=") (codes ".c9s")
+
+pub form-cm_long_name : IsOfAlphabet → (text : List ℕ) → IsTrue (is_cm_long_name (cm_long_name text))
+form-cm_long_name alphabet text =
+    and_from _ _
+    (and_from _ _ (ap (λ n. n == 32) (length-cm_long_name alphabet text)) (ap (list_all is_base64url) digest ∙ alphabet.characters (sha1 text) (IsBytes-sha1 text)))
+    ((bytes_eq-Decides (drop 27 (cm_long_name text)) (codes "=.c9s")).1 end)
+  where
+    size : length (base64url (sha1 text)) ≡ 27
+    size = alphabet.size (sha1 text) ∙ ap (λ n. (4 * n + 2) / 3) (length-sha1 text)
+
+    digest : take 27 (cm_long_name text) ≡ base64url (sha1 text)
+    digest = ap (take 27) (cm_long_name-is text) ∙ take_at (base64url (sha1 text)) (codes "=.c9s") 27 size
+
+    end : drop 27 (cm_long_name text) ≡ codes "=.c9s"
+    end = ap (drop 27) (cm_long_name-is text) ∙ drop_at (base64url (sha1 text)) (codes "=.c9s") 27 size
 
 -- a folder
 pub length-cm_folder_of : (keys : CmKeys) (id : List ℕ) → length (cm_folder_of keys id) ≡ 32

@@ -1,7 +1,8 @@
 -- The stored names of Cryptomator, vault format 8, in the encrypting direction: `id` is the id of a directory, of no bytes
 -- for the root.
-use Rattle.std.specs.Prelude.{◌≡◌, ◌&&◌, ◌||◌, ◌==◌, ℕ, Bool, List, [], ◌∷◌, ◌++◌, length, codes, nat_le, if◌then◌else◌, IsTrue, Some, None}
+use Rattle.std.specs.Prelude.{◌≡◌, ◌&&◌, ◌||◌, ◌==◌, ℕ, Bool, List, [], ◌∷◌, ◌++◌, length, take, drop, codes, nat_le, if◌then◌else◌, IsTrue, Some, None}
 use Rattle.std.specs.List.{list_all}
+use Rattle.std.specs.Str.{bytes_eq}
 use Rattle.aes_lanes.specs.Cipher.{aes256}
 use Rattle.base64.specs.Engines.{url_safe}
 use Rattle.base64.specs.GeneralPurpose.{encode_of}
@@ -33,6 +34,10 @@ cm_text keys id name = padded_base64url (siv_under keys (id ∷ []) name) ++ cod
 -- the entry's name of a text that is too long for one
 unfoldable pub cm_long_name : List ℕ → List ℕ
 cm_long_name text = padded_base64url (sha1 text) ++ codes ".c9s"
+
+-- a name has the form of a long one: 27 characters of base64url, and then `=.c9s`
+abbrev pub is_cm_long_name : List ℕ → Bool
+is_cm_long_name name = (length name == 32) && list_all is_base64url (take 27 name) && bytes_eq (drop 27 name) (codes "=.c9s")
 
 -- a text of at most the threshold's characters is the entry's name; a longer one stands in a file of the entry
 abbrev pub cm_entry_of : ℕ → List ℕ → Stored

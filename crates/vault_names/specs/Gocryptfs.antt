@@ -1,12 +1,14 @@
 -- The stored names of gocryptfs, on-disk format 2, in the encrypting direction: `key` is the vault's name key, and `iv` the
 -- sixteen bytes of a directory's `gocryptfs.diriv`.
-use Rattle.std.specs.Prelude.{◌≡◌, ℕ, ◌-◌, ◌/◌, ◌%◌, List, ◌++◌, length, replicate, codes, nat_le, if◌then◌else◌, IsTrue, Some, None}
-use Rattle.std.specs.List.{flat_map}
+use Rattle.std.specs.Prelude.{◌≡◌, ◌==◌, ◌&&◌, ℕ, ◌-◌, ◌/◌, ◌%◌, Bool, List, ◌++◌, length, take, drop, replicate, codes, nat_le, if◌then◌else◌, IsTrue, Some, None}
+use Rattle.std.specs.List.{flat_map, list_all}
 use Rattle.std.specs.Simd.{first_chunks}
+use Rattle.std.specs.Str.{bytes_eq}
 use Rattle.sha2.specs.Sha256.{sha256}
 use Rattle.base64.specs.Engines.{url_safe_no_pad}
 use Rattle.base64.specs.GeneralPurpose.{encode_of}
 use Rattle.eme_mode.specs.Eme.{eme256}
+use Rattle.json_fields.specs.Base64.{is_base64url}
 use Rattle.plain_tree.specs.Names.{is_name}
 use Rattle.vault_names.specs.declared.entry.Stored.{Stored}
 
@@ -33,6 +35,10 @@ go_text key iv name = base64url (bytes_of (eme256 key iv (blocks_of (padded_byte
 -- the entry's name of a text that is too long for one
 unfoldable pub long_name : List ℕ → List ℕ
 long_name text = codes "gocryptfs.longname." ++ base64url (sha256 text)
+
+-- a name has the form of a long one: `gocryptfs.longname.`, and then 43 characters of base64url
+abbrev pub is_long_name : List ℕ → Bool
+is_long_name name = (length name == 62) && bytes_eq (take 19 name) (codes "gocryptfs.longname.") && list_all is_base64url (drop 19 name)
 
 -- a text of at most 255 characters is the entry's name; a longer one stands in the long-name file
 abbrev pub entry_of : List ℕ → Stored

@@ -7,8 +7,8 @@ ghost use Rattle.vault_values.specs.declared.keys.CmKeys.{CmKeys};
 ghost use Rattle.plain_tree.specs.Names.{is_name};
 ghost use Rattle.json_fields.specs.Base64.{is_base64url};
 ghost use Rattle.vault_names.specs.Base32.{is_base32};
-ghost use Rattle.vault_names.specs.Cryptomator.{cm_folder_of, cm_long_name, cm_text, is_id_character, IsCmTextOf, IsPlainUpTo};
-ghost use Rattle.vault_names.specs.Gocryptfs.{go_text, long_name, IsTextOf};
+ghost use Rattle.vault_names.specs.Cryptomator.{cm_folder_of, cm_long_name, cm_text, is_cm_long_name, is_id_character, IsCmTextOf, IsPlainUpTo};
+ghost use Rattle.vault_names.specs.Gocryptfs.{go_text, is_long_name, long_name, IsTextOf};
 
 use aes_lanes::laws as aes;
 use eme_mode::laws::{blocks_stay_blocks, directions_undo_each_other};
@@ -41,6 +41,7 @@ pub fn long_names_are_plain()
     ensures size { (text : List ℕ) → length (long_name text) ≡ 62 }
     ensures prefix { (text : List ℕ) → take 19 (long_name text) ≡ codes "gocryptfs.longname." }
     ensures characters { (text : List ℕ) → IsTrue (list_all is_base64url (drop 19 (long_name text))) }
+    ensures form { (text : List ℕ) → IsTrue (is_long_name (long_name text)) }
 {
     base64url_is_of_its_alphabet();
     digests_are_bytes();
@@ -73,6 +74,7 @@ pub fn cm_texts_are_plain()
 pub fn cm_long_names_are_plain()
     ensures size { (text : List ℕ) → length (cm_long_name text) ≡ 32 }
     ensures characters { (text : List ℕ) → IsPlainUpTo (codes ".c9s") (cm_long_name text) }
+    ensures form { (text : List ℕ) → IsTrue (is_cm_long_name (cm_long_name text)) }
 {
     base64url_is_of_its_alphabet();
 }

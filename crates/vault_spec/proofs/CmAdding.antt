@@ -10,6 +10,7 @@ use Rattle.plain_tree.specs.Names as plain
 use Rattle.plain_tree.specs.Names.{is_name}
 use Rattle.vault_names.specs.Cryptomator.{cm_stored, cm_folder_of}
 use Rattle.vault_names.specs.declared.entry.Stored.{Stored}
+use Rattle.vault_spec.specs.StoredNames.{CmTexts}
 use Rattle.vault_spec.specs.declared.Lack.TheVariants.{NoFolder}
 use Rattle.vault_spec.specs.Format.{Directory, DirectoryItem, file_bytes, is_folder, taken_at, key_of}
 use Rattle.vault_spec.specs.Cryptomator.{CmVault, cm_format, top, id_file, content_file, full_file, directory_id, shelf_named, folder_named, content_folder, cm_item, full_files, new_file_edit, folder_where_free, taken_unless_folder, taken_folders, taken_entry}
@@ -23,7 +24,7 @@ use Rattle.vault_spec.proofs.Grafts.{reached_right, nothing_below, edited_adds, 
 use Rattle.vault_spec.proofs.PathEnds.{child-both}
 use Rattle.vault_spec.proofs.Places.{SparesAll, IsNoEntry, IsRooted, leads_from_root, IsSide, brought, brought_there, arrived, IsNew, new_after_side, Arrives, file_folders, folder_folders}
 use Rattle.vault_spec.proofs.MadeItems.{HasOwnFolder, IsMade, MakesItems}
-use Rattle.vault_spec.proofs.CmVault.{CmTexts, cm_lawful}
+use Rattle.vault_spec.proofs.CmVault.{cm_lawful}
 
 -- the folder of a reached directory has three parts, and an entry in it four
 pub three_parts : (vault : CmVault) (texts : CmTexts vault.keys) (v : View) (path : plain.Path) (dir : Directory) → Leads (cm_format vault) v path dir → length dir.folder ≡ 3

@@ -7,6 +7,7 @@ use Rattle.folder_spec.specs.Path.{Part, Path, child}
 use Rattle.folder_spec.specs.View.{Found, NoEntry, Folder, FileOf, Special, View}
 use Rattle.vault_names.specs.Cryptomator.{cm_text, cm_long_name, cm_entry_of, cm_stored, cm_folder_of}
 use Rattle.vault_names.specs.declared.entry.Stored.{Stored}
+use Rattle.vault_spec.specs.StoredNames.{CmTexts}
 use Rattle.vault_spec.specs.declared.Finding.{Finding}
 use Rattle.vault_spec.specs.declared.Finding.TheVariants as is
 use Rattle.vault_spec.specs.Format.{Directory, Nothing, NoItem, Expected, Extra, ContentFolder, taken_at}
@@ -19,13 +20,8 @@ use Rattle.vault_spec.specs.Tidy.{IsTidy, OwnPlacesAreFree}
 use Rattle.vault_spec.specs.Vault.{Cryptomator}
 use Rattle.vault_spec.proofs.Entries.{differ, IsShortOrLong, entry_is}
 use Rattle.vault_spec.proofs.FreePlaces.{OfNoItem, KnowsEntries, entry_free}
-use Rattle.vault_spec.proofs.CmVault.{CmTexts, cm_lawful}
-use Rattle.vault_spec.proofs.CmKeeping.{CmFolders, shelf_text, folder_is}
-
--- the sizes of texts and of long names
-pub record CmSizes (keys : CmKeys) : Type 0 where
-  pub text : (id name : List ℕ) → length (cm_text keys id name) ≡ 4 * ((length name + 16 + 2) / 3) + 4
-  pub long : (text : List ℕ) → length (cm_long_name text) ≡ 32
+use Rattle.vault_spec.proofs.CmVault.{cm_lawful}
+use Rattle.vault_spec.proofs.CmKeeping.{shelf_text, folder_is}
 
 pub nothing_there : (long : Bool) (v : View) (x : Found) → cm_item_of long v x ≡ Nothing → x ≡ NoEntry
 nothing_there long v NoEntry is = refl
@@ -76,24 +72,24 @@ faults long v Folder finding is = by_files long (has_file v content_file) (has_f
     by_files false false true true is = inr (inr cc)
 
 -- no entry has the name of the file that belongs in a content folder
-not_fixed : (keys : CmKeys) → CmSizes keys → (threshold : ℕ) (id name : List ℕ) → (bytes_eq (cm_entry_of threshold (cm_text keys id name)).name (codes "dirid.c9r") || false) ≡ false
-not_fixed keys sizes threshold id name = by_form (entry_is cm_long_name threshold (cm_text keys id name))
+not_fixed : (keys : CmKeys) → CmTexts keys → (threshold : ℕ) (id name : List ℕ) → (bytes_eq (cm_entry_of threshold (cm_text keys id name)).name (codes "dirid.c9r") || false) ≡ false
+not_fixed keys texts threshold id name = by_form (entry_is cm_long_name threshold (cm_text keys id name))
   where
     by_size : (x : List ℕ) → length x ≢ 9 → (bytes_eq x (codes "dirid.c9r") || false) ≡ false
     by_size x apart = ap (λ b. b || false) (differ x (codes "dirid.c9r") (λ same. apart (ap length same)))
 
     by_form : IsShortOrLong cm_long_name threshold (cm_text keys id name) → (bytes_eq (cm_entry_of threshold (cm_text keys id name)).name (codes "dirid.c9r") || false) ≡ false
     by_form (inl short) = ap (λ (s : Stored). bytes_eq s.name (codes "dirid.c9r") || false) short
-        ∙ by_size (cm_text keys id name) (λ nine. let size : 4 * ((length name + 16 + 2) / 3) + 4 ≡ 9 = sym (sizes.text id name) ∙ nine in omega (arith, size))
+        ∙ by_size (cm_text keys id name) (λ nine. let size : 4 * ((length name + 16 + 2) / 3) + 4 ≡ 9 = sym (texts.size id name) ∙ nine in omega (arith, size))
     by_form (inr long) = ap (λ (s : Stored). bytes_eq s.name (codes "dirid.c9r") || false) long
-        ∙ by_size (cm_long_name (cm_text keys id name)) (λ nine. let size : ◌≡◌ {A = ℕ} 32 9 = sym (sizes.long (cm_text keys id name)) ∙ nine in cc)
+        ∙ by_size (cm_long_name (cm_text keys id name)) (λ nine. let size : ◌≡◌ {A = ℕ} 32 9 = sym (texts.long_size (cm_text keys id name)) ∙ nine in cc)
 
-cm_entries : (vault : CmVault) (texts : CmTexts vault.keys) → CmSizes vault.keys → KnowsEntries (cm_format vault) (cm_lawful vault texts)
+cm_entries : (vault : CmVault) (texts : CmTexts vault.keys) → KnowsEntries (cm_format vault) (cm_lawful vault texts)
 unfolding cm_stored
-cm_entries vault texts sizes = record {
+cm_entries vault texts = record {
   nothing = λ long v is. nothing_there long v (v []) is;
   faults = λ long v finding is. faults long v (v []) finding is;
-  not_fixed = λ folder key name is named. not_fixed vault.keys sizes vault.threshold key name;
+  not_fixed = λ folder key name is named. not_fixed vault.keys texts vault.threshold key name;
 }
 
 -- whether an entry is the file that belongs in a content folder
@@ -108,16 +104,16 @@ fixed_or_not vault v at x = by_kind (v (child at x)) refl (bytes_eq x (codes "di
     by_kind Special is b named = inr (λ fixed. let clash : FileOf fixed.file.0 ≡ Special = sym fixed.file.1 ∙ is in cc)
 
 -- no content folder is there that no directory has
-folder_free : (vault : CmVault) → CmFolders vault.keys → (v : View) (id : List ℕ) → IsClean (cm_format vault) v → IsTidy (cm_format vault) v
+folder_free : (vault : CmVault) → CmTexts vault.keys → (v : View) (id : List ℕ) → IsClean (cm_format vault) v → IsTidy (cm_format vault) v
     → ((other : Directory) → IsReached (cm_format vault) v other → other.folder ≢ content_folder vault.keys id) → v (content_folder vault.keys id) ≡ NoEntry
-folder_free vault folders v id clean tidy homed = by_kind (v (content_folder vault.keys id)) refl
+folder_free vault texts v id clean tidy homed = by_kind (v (content_folder vault.keys id)) refl
   where
     strange : (there : Found) → v (content_folder vault.keys id) ≡ there → folder_role (is_base32_text 30 (drop 2 (cm_folder_of vault.keys id))) ContentFolder there ≡ Extra → ⊥
     strange there seen extra = clean is.ExtraEntry (content_folder vault.keys id) refl (inr (ap (cm_role (content_folder vault.keys id)) seen
-        ∙ ap (λ b. cond b (folder_role (is_base32_text 30 (drop 2 (cm_folder_of vault.keys id))) ContentFolder there) Expected) (shelf_text vault.keys folders id) ∙ extra))
+        ∙ ap (λ b. cond b (folder_role (is_base32_text 30 (drop 2 (cm_folder_of vault.keys id))) ContentFolder there) Expected) (shelf_text vault.keys texts id) ∙ extra))
 
     loose : v (content_folder vault.keys id) ≡ Folder → IsLoose (cm_format vault) v (content_folder vault.keys id)
-    loose seen = record { folder = ap (cm_role (content_folder vault.keys id)) seen ∙ folder_is vault folders id; loose = homed }
+    loose seen = record { folder = ap (cm_role (content_folder vault.keys id)) seen ∙ folder_is vault texts id; loose = homed }
 
     fixed : v (content_folder vault.keys id) ≡ Folder → (x : Part) → v (child (content_folder vault.keys id) x) ≢ NoEntry → IsFixed (cm_format vault) v (content_folder vault.keys id) x
     fixed seen x there = elim (fixed_or_not vault v (content_folder vault.keys id) x) [
@@ -144,11 +140,11 @@ shelf_untaken vault v id clean = by_kind (v (shelf_named (cm_folder_of vault.key
     by_kind (FileOf bytes) seen = absurd (strange (ap (cm_role (shelf_named (cm_folder_of vault.keys id))) seen))
     by_kind Special seen = absurd (strange (ap (cm_role (shelf_named (cm_folder_of vault.keys id))) seen))
 
-pub cm_places_free : (vault : CmVault) → CmTexts vault.keys → CmSizes vault.keys → CmFolders vault.keys → OwnPlacesAreFree (cm_format vault)
-cm_places_free vault texts sizes folders v front dir name item drawn clean tidy leads named none own = by_item item own.homed
+pub cm_places_free : (vault : CmVault) → CmTexts vault.keys → OwnPlacesAreFree (cm_format vault)
+cm_places_free vault texts v front dir name item drawn clean tidy leads named none own = by_item item own.homed
   where
     free : v (entry_at (cm_format vault) dir name) ≡ NoEntry
-    free = entry_free (Cryptomator vault) (cm_lawful vault texts) (cm_entries vault texts sizes) v dir name clean (front, leads) named none own.named
+    free = entry_free (Cryptomator vault) (cm_lawful vault texts) (cm_entries vault texts) v dir name clean (front, leads) named none own.named
 
     untaken : taken_entry v dir (cm_stored vault.keys vault.threshold dir.key name) ≡ None
     untaken = ap (taken_at (entry_at (cm_format vault) dir name)) free
@@ -156,7 +152,7 @@ cm_places_free vault texts sizes folders v front dir name item drawn clean tidy 
     folders_untaken : ((other : Directory) → IsReached (cm_format vault) v other → other.folder ≢ content_folder vault.keys (id_of drawn)) → taken_folders v (cm_folder_of vault.keys (id_of drawn)) ≡ None
     folders_untaken homed =
         ap (λ x. option_or (taken_at (content_folder vault.keys (id_of drawn)) x) (taken_unless_folder (shelf_named (cm_folder_of vault.keys (id_of drawn))) (v (shelf_named (cm_folder_of vault.keys (id_of drawn))))))
-        (folder_free vault folders v (id_of drawn) clean tidy homed)
+        (folder_free vault texts v (id_of drawn) clean tidy homed)
         ∙ shelf_untaken vault v (id_of drawn) clean
 
     by_item : (item : NewItem) → (item ≡ NewDirectory → (other : Directory) → IsReached (cm_format vault) v other → other.folder ≢ content_folder vault.keys (id_of drawn))

@@ -1,6 +1,6 @@
 -- Each edit of a new item of Cryptomator keeps a vault clean.
 use Rattle.std.proofs.Common.{◌≡◌, ◌≢◌, ℕ, ◌+◌, Bool, true, false, ◌&&◌, ◌||◌, List, [], ◌∷◌, ◌++◌, Ok, Err, cond, refl, sym, ap, ◌∙◌, subst, Some, None, Option, IsTrue, is_some, length, append_assoc, take, drop, arith, bytes_eq}
-use Rattle.std.proofs.lemmas.Bool.{eq-eqb}
+use Rattle.std.proofs.lemmas.Bool.{eq-eqb, or_left, or_right}
 use Rattle.std.specs.List.{list_all}
 use Rattle.std.proofs.lemmas.List.{take-append-drop}
 use Rattle.std.proofs.lemmas.Slice.Eq.{bytes_eq-Decides}
@@ -13,6 +13,7 @@ use Rattle.plain_tree.specs.Names as plain
 use Rattle.plain_tree.specs.Names.{is_name}
 use Rattle.vault_names.specs.Base32.{is_base32}
 use Rattle.vault_names.specs.Cryptomator.{cm_stored, cm_folder_of}
+use Rattle.vault_spec.specs.StoredNames.{CmTexts}
 use Rattle.vault_spec.specs.Format.{Directory, FileItem, DirectoryItem, Expected, Shelf, ContentFolder, Extra}
 use Rattle.vault_spec.specs.Cryptomator.{CmVault, cm_format, top, id_file, content_file, full_file, directory_id, shelf_named, content_folder, is_base32_text, cm_role, file_role, folder_role, inner_role, full_files, new_file_edit, taken_entry}
 use Rattle.vault_spec.specs.Standing.{Standing, Absent, Strange, File, Dir, entry_at, standing_in}
@@ -23,26 +24,20 @@ use Rattle.vault_spec.specs.Alike.{IsOrderly}
 use Rattle.vault_spec.proofs.ByteKeys.{front_plain, right_plain}
 use Rattle.vault_spec.proofs.Grafts.{reached_right}
 use Rattle.vault_spec.proofs.Places.{orderly_is_rooted, IsSide, side_looks, side_orderly, brought, brought_there, IsNew, new_after_side}
-use Rattle.vault_spec.proofs.StaysClean.{IsBare, IsApart, KeepEach, KeepsItems}
-use Rattle.vault_spec.proofs.Keeping.{free_is_apart, apart_on, HasPlace, side_keeps, BringsWhole, item_keeps, file_brings}
-use Rattle.vault_spec.proofs.CmVault.{CmTexts, cm_lawful, no_role_of_nothing}
+use Rattle.vault_spec.proofs.StaysClean.{IsBare, IsApart, KeepEach, KeepsItems, HasPlace}
+use Rattle.vault_spec.proofs.Keeping.{free_is_apart, apart_on, side_keeps, BringsWhole, item_keeps, file_brings}
+use Rattle.vault_spec.proofs.CmVault.{cm_lawful, no_role_of_nothing}
 use Rattle.vault_spec.proofs.CmAdding.{three_parts, one_more, four_parts, entry_spares, file_arrives, new_file_comes, directory_at, its_item, its_full, its_id, arrives_then, directory_stands, folder_bare, HasEmptyFolder, folder_side, folder_ready, folder_apart, shelf_side, by_shelf, new_at, folder_free, new_after_shelf}
 
--- the laws of the texts of folders
-pub record CmFolders (keys : CmKeys) : Type 0 where
-  pub first : (id : List ℕ) → length (take 2 (cm_folder_of keys id)) ≡ 2
-  pub rest : (id : List ℕ) → length (drop 2 (cm_folder_of keys id)) ≡ 30
-  pub characters : (id : List ℕ) → IsTrue (list_all is_base32 (cm_folder_of keys id))
+pub shelf_text : (keys : CmKeys) → CmTexts keys → (id : List ℕ) → is_base32_text 2 (take 2 (cm_folder_of keys id)) ≡ true
+shelf_text keys texts id =
+    ap (λ b. b && list_all is_base32 (take 2 (cm_folder_of keys id))) (eq-eqb (length (take 2 (cm_folder_of keys id))) 2 (texts.folder_first id))
+    ∙ front_plain is_base32 (take 2 (cm_folder_of keys id)) (drop 2 (cm_folder_of keys id)) (ap (list_all is_base32) (take-append-drop 2 (cm_folder_of keys id)) ∙ texts.folder_plain id)
 
-pub shelf_text : (keys : CmKeys) → CmFolders keys → (id : List ℕ) → is_base32_text 2 (take 2 (cm_folder_of keys id)) ≡ true
-shelf_text keys folders id =
-    ap (λ b. b && list_all is_base32 (take 2 (cm_folder_of keys id))) (eq-eqb (length (take 2 (cm_folder_of keys id))) 2 (folders.first id))
-    ∙ front_plain is_base32 (take 2 (cm_folder_of keys id)) (drop 2 (cm_folder_of keys id)) (ap (list_all is_base32) (take-append-drop 2 (cm_folder_of keys id)) ∙ folders.characters id)
-
-pub folder_text : (keys : CmKeys) → CmFolders keys → (id : List ℕ) → is_base32_text 30 (drop 2 (cm_folder_of keys id)) ≡ true
-folder_text keys folders id =
-    ap (λ b. b && list_all is_base32 (drop 2 (cm_folder_of keys id))) (eq-eqb (length (drop 2 (cm_folder_of keys id))) 30 (folders.rest id))
-    ∙ right_plain is_base32 (take 2 (cm_folder_of keys id)) (drop 2 (cm_folder_of keys id)) (ap (list_all is_base32) (take-append-drop 2 (cm_folder_of keys id)) ∙ folders.characters id)
+pub folder_text : (keys : CmKeys) → CmTexts keys → (id : List ℕ) → is_base32_text 30 (drop 2 (cm_folder_of keys id)) ≡ true
+folder_text keys texts id =
+    ap (λ b. b && list_all is_base32 (drop 2 (cm_folder_of keys id))) (eq-eqb (length (drop 2 (cm_folder_of keys id))) 30 (texts.folder_rest id))
+    ∙ right_plain is_base32 (take 2 (cm_folder_of keys id)) (drop 2 (cm_folder_of keys id)) (ap (list_all is_base32) (take-append-drop 2 (cm_folder_of keys id)) ∙ texts.folder_plain id)
 
 -- what an entry in an item's folder is has five parts
 no_inner : (vault : CmVault) (texts : CmTexts vault.keys) (v : View) (at : Path) → length at ≢ 5 → (path : plain.Path) (dir : Directory) (name : List ℕ) (x : Part) → Leads (cm_format vault) v path dir
@@ -84,8 +79,8 @@ shelf_role a (FileOf bytes) is = cc
 shelf_role a Special is = cc
 
 -- a folder of content folders has its place
-shelf_place : (vault : CmVault) (texts : CmTexts vault.keys) → CmFolders vault.keys → (v : View) (id : List ℕ) → HasPlace (cm_format vault) v (directory_edit (shelf_named (cm_folder_of vault.keys id)))
-shelf_place vault texts folders v id = record {
+shelf_place : (vault : CmVault) (texts : CmTexts vault.keys) → (v : View) (id : List ℕ) → HasPlace (cm_format vault) v (directory_edit (shelf_named (cm_folder_of vault.keys id)))
+shelf_place vault texts v id = record {
   inner = λ path dir name x leads here long item there. absurd (no_inner vault texts v (shelf_named (cm_folder_of vault.keys id)) (λ z. cc) path dir name x leads here);
   role = role;
   empty = λ rest x is. ap (edited v (directory_edit (shelf_named (cm_folder_of vault.keys id)))) (append_assoc (shelf_named (cm_folder_of vault.keys id)) rest (x ∷ []))
@@ -96,21 +91,21 @@ shelf_place vault texts folders v id = record {
   where
     role : (rest : Path) → cm_role (shelf_named (cm_folder_of vault.keys id) ++ rest) (edited v (directory_edit (shelf_named (cm_folder_of vault.keys id))) (shelf_named (cm_folder_of vault.keys id) ++ rest)) ≢ Extra
     role [] is =
-        let shelf : cm_role (shelf_named (cm_folder_of vault.keys id)) Folder ≡ Shelf = ap (λ b. cond b Shelf Extra) (shelf_text vault.keys folders id) in
+        let shelf : cm_role (shelf_named (cm_folder_of vault.keys id)) Folder ≡ Shelf = ap (λ b. cond b Shelf Extra) (shelf_text vault.keys texts id) in
         let clash : Shelf ≡ Extra = sym shelf ∙ ap (cm_role (shelf_named (cm_folder_of vault.keys id))) (sym (brought v (directory_edit (shelf_named (cm_folder_of vault.keys id))) [])) ∙ is in cc
     role (a ∷ rest) is =
         let clash : Expected ≡ Extra = sym (no_role_of_nothing (shelf_named (cm_folder_of vault.keys id) ++ a ∷ rest))
         ∙ ap (cm_role (shelf_named (cm_folder_of vault.keys id) ++ a ∷ rest)) (sym (brought v (directory_edit (shelf_named (cm_folder_of vault.keys id))) (a ∷ rest))) ∙ is in cc
 
 -- a content folder is one by its name
-pub folder_is : (vault : CmVault) → CmFolders vault.keys → (id : List ℕ) → cm_role (content_folder vault.keys id) Folder ≡ ContentFolder
-folder_is vault folders id =
-    ap (λ b. cond b (folder_role (is_base32_text 30 (drop 2 (cm_folder_of vault.keys id))) ContentFolder Folder) Expected) (shelf_text vault.keys folders id)
-    ∙ ap (λ b. cond b ContentFolder Extra) (folder_text vault.keys folders id)
+pub folder_is : (vault : CmVault) → CmTexts vault.keys → (id : List ℕ) → cm_role (content_folder vault.keys id) Folder ≡ ContentFolder
+folder_is vault texts id =
+    ap (λ b. cond b (folder_role (is_base32_text 30 (drop 2 (cm_folder_of vault.keys id))) ContentFolder Folder) Expected) (shelf_text vault.keys texts id)
+    ∙ ap (λ b. cond b ContentFolder Extra) (folder_text vault.keys texts id)
 
 -- and has its place
-folder_place : (vault : CmVault) (texts : CmTexts vault.keys) → CmFolders vault.keys → (v : View) (id : List ℕ) → HasPlace (cm_format vault) v (directory_edit (content_folder vault.keys id))
-folder_place vault texts folders v id = record {
+folder_place : (vault : CmVault) (texts : CmTexts vault.keys) → (v : View) (id : List ℕ) → HasPlace (cm_format vault) v (directory_edit (content_folder vault.keys id))
+folder_place vault texts v id = record {
   inner = λ path dir name x leads here long item there. absurd (no_inner vault texts v (content_folder vault.keys id) (λ z. cc) path dir name x leads here);
   role = role;
   empty = λ rest x is. ap (edited v (directory_edit (content_folder vault.keys id))) (append_assoc (content_folder vault.keys id) rest (x ∷ []))
@@ -122,7 +117,7 @@ folder_place vault texts folders v id = record {
   where
     role : (rest : Path) → cm_role (content_folder vault.keys id ++ rest) (edited v (directory_edit (content_folder vault.keys id)) (content_folder vault.keys id ++ rest)) ≢ Extra
     role [] is =
-        let clash : ContentFolder ≡ Extra = sym (folder_is vault folders id) ∙ ap (cm_role (content_folder vault.keys id)) (sym (brought v (directory_edit (content_folder vault.keys id)) [])) ∙ is in cc
+        let clash : ContentFolder ≡ Extra = sym (folder_is vault texts id) ∙ ap (cm_role (content_folder vault.keys id)) (sym (brought v (directory_edit (content_folder vault.keys id)) [])) ∙ is in cc
     role (a ∷ rest) is =
         let clash : Expected ≡ Extra = sym (no_role_of_nothing (content_folder vault.keys id ++ a ∷ rest))
         ∙ ap (cm_role (content_folder vault.keys id ++ a ∷ rest)) (sym (brought v (directory_edit (content_folder vault.keys id)) (a ∷ rest))) ∙ is in cc
@@ -145,14 +140,6 @@ entry_place vault texts v front dir name e new = record {
 
     no_role : (rest : Path) (there : Found) → cm_role (e.at ++ rest) there ≡ Expected
     no_role rest there = ap (λ p. cm_role (p ++ rest) there) form
-
-or_right : (a b : Bool) → b ≡ true → (a || b) ≡ true
-or_right true b e = refl
-or_right false b e = e
-
-or_left : (a b : Bool) → a ≡ true → (a || b) ≡ true
-or_left true b e = refl
-or_left false b e = cc
 
 -- the names of these files belong
 abbrev AllBelong : List (Part × List ℕ) → Part → Bool → Type 0
@@ -265,13 +252,13 @@ directory_whole vault texts u front dir name id new is_id ready apart alone = re
         )
 
 -- the content folder and the entry, where the folder of content folders is there
-keeps_after_shelf : (vault : CmVault) (texts : CmTexts vault.keys) → CmFolders vault.keys → (w : View) (front : plain.Path) (dir : Directory) (name id : List ℕ)
+keeps_after_shelf : (vault : CmVault) (texts : CmTexts vault.keys) → (w : View) (front : plain.Path) (dir : Directory) (name id : List ℕ)
     → IsOrderly (cm_format vault) w → IsNew (cm_format vault) w front dir name (directory_at vault dir name id) → directory_id id ≡ Some id
     → w (shelf_named (cm_folder_of vault.keys id)) ≡ Folder → w (content_folder vault.keys id) ≡ NoEntry
     → KeepEach (cm_format vault) (cm_lawful vault texts) w (directory_edit (content_folder vault.keys id) ∷ directory_at vault dir name id ∷ [])
-keeps_after_shelf vault texts folders w front dir name id orderly new is_id shelf free = (
+keeps_after_shelf vault texts w front dir name id orderly new is_id shelf free = (
   side_keeps (cm_format vault) (cm_lawful vault texts) w (directory_edit (content_folder vault.keys id)) orderly side
-      (folder_place vault texts folders w id) (λ path other x leads here. absurd (no_child vault texts w (content_folder vault.keys id) (λ z. cc) path other x leads here)),
+      (folder_place vault texts w id) (λ path other x leads here. absurd (no_child vault texts w (content_folder vault.keys id) (λ z. cc) path other x leads here)),
   (
     item_keeps (cm_format vault) (cm_lawful vault texts) (edited w (directory_edit (content_folder vault.keys id))) front dir name (directory_at vault dir name id) opens.Directory
         (side_orderly (cm_format vault) (cm_lawful vault texts) w (directory_edit (content_folder vault.keys id)) orderly side) new_then
@@ -295,16 +282,16 @@ keeps_after_shelf vault texts folders w front dir name id orderly new is_id shel
     new_then : IsNew (cm_format vault) (edited w (directory_edit (content_folder vault.keys id))) front dir name (directory_at vault dir name id)
     new_then = new_after_side (cm_format vault) (cm_lawful vault texts) w (directory_edit (content_folder vault.keys id)) front dir name (directory_at vault dir name id) side new
 
-new_directory_keeps : (vault : CmVault) (texts : CmTexts vault.keys) → CmFolders vault.keys → (v : View) (front : plain.Path) (dir : Directory) (name id : List ℕ)
+new_directory_keeps : (vault : CmVault) (texts : CmTexts vault.keys) → (v : View) (front : plain.Path) (dir : Directory) (name id : List ℕ)
     → IsOrderly (cm_format vault) v → Leads (cm_format vault) v front dir → IsTrue (is_name name) → directory_id id ≡ Some id
     → (cm_format vault).taken_for_directory v dir (cm_stored vault.keys vault.threshold dir.key name) id ≡ None
     → KeepEach (cm_format vault) (cm_lawful vault texts) v ((cm_format vault).new_directory v dir (cm_stored vault.keys vault.threshold dir.key name) id)
-new_directory_keeps vault texts folders v front dir name id orderly leads named is_id none =
-    by_shelf vault v dir name id (KeepEach (cm_format vault) (cm_lawful vault texts) v) none (keeps_after_shelf vault texts folders v front dir name id orderly new is_id)
+new_directory_keeps vault texts v front dir name id orderly leads named is_id none =
+    by_shelf vault v dir name id (KeepEach (cm_format vault) (cm_lawful vault texts) v) none (keeps_after_shelf vault texts v front dir name id orderly new is_id)
     (λ free. (
-      side_keeps (cm_format vault) (cm_lawful vault texts) v (directory_edit (shelf_named (cm_folder_of vault.keys id))) orderly (side free) (shelf_place vault texts folders v id)
+      side_keeps (cm_format vault) (cm_lawful vault texts) v (directory_edit (shelf_named (cm_folder_of vault.keys id))) orderly (side free) (shelf_place vault texts v id)
           (λ path other x leads_too here. absurd (no_child vault texts v (shelf_named (cm_folder_of vault.keys id)) (λ z. cc) path other x leads_too here)),
-      keeps_after_shelf vault texts folders (edited v (directory_edit (shelf_named (cm_folder_of vault.keys id)))) front dir name id
+      keeps_after_shelf vault texts (edited v (directory_edit (shelf_named (cm_folder_of vault.keys id)))) front dir name id
           (side_orderly (cm_format vault) (cm_lawful vault texts) v (directory_edit (shelf_named (cm_folder_of vault.keys id))) orderly (side free))
           (new_after_shelf vault texts v front dir name id new free) is_id (brought_there v (directory_edit (shelf_named (cm_folder_of vault.keys id)))) (folder_free vault v id),
     ))
@@ -315,5 +302,5 @@ new_directory_keeps vault texts folders v front dir name id orderly leads named 
     side : v (shelf_named (cm_folder_of vault.keys id)) ≡ NoEntry → IsSide (cm_format vault) (cm_lawful vault texts) v (directory_edit (shelf_named (cm_folder_of vault.keys id)))
     side = shelf_side vault texts v front dir id (orderly_is_rooted (cm_format vault) v orderly) leads
 
-pub cm_keeps : (vault : CmVault) (texts : CmTexts vault.keys) → CmFolders vault.keys → KeepsItems (cm_format vault) (cm_lawful vault texts)
-cm_keeps vault texts folders = record { file = new_file_keeps vault texts; directory = new_directory_keeps vault texts folders }
+pub cm_keeps : (vault : CmVault) (texts : CmTexts vault.keys) → KeepsItems (cm_format vault) (cm_lawful vault texts)
+cm_keeps vault texts = record { file = new_file_keeps vault texts; directory = new_directory_keeps vault texts }

@@ -7,6 +7,8 @@ use Rattle.folder_spec.specs.Edit.{edited, directory_edit, folder_view}
 use Rattle.plain_tree.specs.Names as plain
 use Rattle.vault_values.specs.declared.keys.CmKeys.{CmKeys}
 use Rattle.vault_names.specs.Cryptomator.{cm_stored, cm_folder_of}
+use Rattle.folder_spec.proofs.Edits.{off_edit}
+use Rattle.vault_spec.specs.StoredNames.{CmTexts}
 use Rattle.vault_spec.specs.declared.Finding.{Finding}
 use Rattle.vault_spec.specs.declared.Lack.{Lack}
 use Rattle.vault_spec.specs.declared.Lack.TheVariants as lacks
@@ -20,12 +22,12 @@ use Rattle.vault_spec.specs.Findings.{IsUnnamed, IsDirectoryItem, IsLocked, IsOr
 use Rattle.vault_spec.specs.Findings as findings
 use Rattle.vault_spec.specs.Alike.{IsNoItem}
 use Rattle.vault_spec.specs.Empty.{IsEmptyVault}
-use Rattle.vault_spec.proofs.Grafts.{edited_elsewhere, none_stands}
+use Rattle.vault_spec.proofs.Grafts.{none_stands}
 use Rattle.vault_spec.proofs.Places.{brought, brought_there}
 use Rattle.vault_spec.proofs.StaysClean.{nothing_at}
-use Rattle.vault_spec.proofs.EmptyRoots.{HasEmptyRoot, root_opens, nothing_opens, only_top}
-use Rattle.vault_spec.proofs.CmVault.{CmTexts, cm_lawful, no_role_of_nothing}
-use Rattle.vault_spec.proofs.CmKeeping.{CmFolders, shelf_text, folder_text}
+use Rattle.vault_spec.proofs.EmptyRoots.{HasEmptyRoot, root_entered, nothing_opens, only_top}
+use Rattle.vault_spec.proofs.CmVault.{cm_lawful, no_role_of_nothing}
+use Rattle.vault_spec.proofs.CmKeeping.{shelf_text, folder_text}
 
 -- the two files, and then the folders of a base32 text
 abbrev pub new_files : List ℕ → List ℕ → View
@@ -56,27 +58,27 @@ none_both false = refl
 -- what stands outside of `d`
 outside : (master vault text : List ℕ) (x : Part) (p : Path) → bytes_eq top x ≡ false → new_root master vault text (x ∷ p) ≡ new_files master vault (x ∷ p)
 outside master vault text x p apart =
-    edited_elsewhere (with_shelf (new_files master vault) text) (directory_edit (folder_named text)) (x ∷ p) (ap (λ b. cond b (below (take 2 text ∷ drop 2 text ∷ []) p) None) apart)
-    ∙ edited_elsewhere (with_top (new_files master vault)) (directory_edit (shelf_named text)) (x ∷ p) (ap (λ b. cond b (below (take 2 text ∷ []) p) None) apart)
-    ∙ edited_elsewhere (new_files master vault) (directory_edit (top ∷ [])) (x ∷ p) (ap (λ b. cond b (below [] p) None) apart)
+    off_edit (with_shelf (new_files master vault) text) (directory_edit (folder_named text)) (x ∷ p) (ap (λ b. cond b (below (take 2 text ∷ drop 2 text ∷ []) p) None) apart)
+    ∙ off_edit (with_top (new_files master vault)) (directory_edit (shelf_named text)) (x ∷ p) (ap (λ b. cond b (below (take 2 text ∷ []) p) None) apart)
+    ∙ off_edit (new_files master vault) (directory_edit (top ∷ [])) (x ∷ p) (ap (λ b. cond b (below [] p) None) apart)
 
 -- in `d`, beside the folder of content folders
 in_top : (master vault text : List ℕ) (y : Part) (p : Path) → bytes_eq (take 2 text) y ≡ false → new_root master vault text (top ∷ y ∷ p) ≡ NoEntry
 in_top master vault text y p apart =
-    edited_elsewhere (with_shelf (new_files master vault) text) (directory_edit (folder_named text)) (top ∷ y ∷ p) (ap (λ b. cond b (below (drop 2 text ∷ []) p) None) apart)
-    ∙ edited_elsewhere (with_top (new_files master vault)) (directory_edit (shelf_named text)) (top ∷ y ∷ p) (ap (λ b. cond b (below [] p) None) apart)
+    off_edit (with_shelf (new_files master vault) text) (directory_edit (folder_named text)) (top ∷ y ∷ p) (ap (λ b. cond b (below (drop 2 text ∷ []) p) None) apart)
+    ∙ off_edit (with_top (new_files master vault)) (directory_edit (shelf_named text)) (top ∷ y ∷ p) (ap (λ b. cond b (below [] p) None) apart)
     ∙ brought (new_files master vault) (directory_edit (top ∷ [])) (y ∷ p)
 
 -- and in that, beside the content folder
 in_shelf : (master vault text : List ℕ) (z : Part) (p : Path) → bytes_eq (drop 2 text) z ≡ false → new_root master vault text (top ∷ take 2 text ∷ z ∷ p) ≡ NoEntry
 in_shelf master vault text z p apart =
-    edited_elsewhere (with_shelf (new_files master vault) text) (directory_edit (folder_named text)) (top ∷ take 2 text ∷ z ∷ p)
+    off_edit (with_shelf (new_files master vault) text) (directory_edit (folder_named text)) (top ∷ take 2 text ∷ z ∷ p)
     (ap (λ b. cond (bytes_eq (take 2 text) (take 2 text)) (cond b (below [] p) None) None) apart ∙ none_both (bytes_eq (take 2 text) (take 2 text)))
     ∙ brought (with_top (new_files master vault)) (directory_edit (shelf_named text)) (z ∷ p)
 
 shelf_there : (master vault text : List ℕ) → new_root master vault text (shelf_named text) ≡ Folder
 shelf_there master vault text =
-    edited_elsewhere (with_shelf (new_files master vault) text) (directory_edit (folder_named text)) (shelf_named text) (none_both (bytes_eq (take 2 text) (take 2 text)))
+    off_edit (with_shelf (new_files master vault) text) (directory_edit (folder_named text)) (shelf_named text) (none_both (bytes_eq (take 2 text) (take 2 text)))
     ∙ brought_there (with_top (new_files master vault)) (directory_edit (shelf_named text))
 
 folder_there : (master vault text : List ℕ) → new_root master vault text (folder_named text) ≡ Folder
@@ -140,9 +142,9 @@ no_content_folder master vault text (x ∷ y ∷ z ∷ []) role = by_parts (part
 no_content_folder master vault text (x ∷ y ∷ z ∷ u ∷ rest) role = cc
 
 -- each thing there has its place
-no_extra : (keys : CmKeys) → CmFolders keys → (master vault : List ℕ) (at : Path) → cm_role at (new_root master vault (cm_folder_of keys []) at) ≢ Extra
-no_extra keys folders master vault [] role = cc
-no_extra keys folders master vault (x ∷ []) role = by_top (part_eq top x)
+no_extra : (keys : CmKeys) → CmTexts keys → (master vault : List ℕ) (at : Path) → cm_role at (new_root master vault (cm_folder_of keys []) at) ≢ Extra
+no_extra keys texts master vault [] role = cc
+no_extra keys texts master vault (x ∷ []) role = by_top (part_eq top x)
   where
     expected_where : new_root master vault (cm_folder_of keys []) (x ∷ []) ≡ NoEntry → ⊥
     expected_where none = let clash : Expected ≡ Extra = sym (no_role_of_nothing (x ∷ [])) ∙ ap (cm_role (x ∷ [])) (sym none) ∙ role in cc
@@ -163,13 +165,13 @@ no_extra keys folders master vault (x ∷ []) role = by_top (part_eq top x)
     by_top : (top ≡ x) ⊎ (bytes_eq top x ≡ false) → ⊥
     by_top (inl one) = let clash : Expected ≡ Extra = ap (λ y. cm_role (y ∷ []) (new_root master vault (cm_folder_of keys []) (y ∷ []))) one ∙ role in cc
     by_top (inr apart) = by_master apart (part_eq (codes "masterkey.cryptomator") x)
-no_extra keys folders master vault (x ∷ y ∷ []) role = by_top (part_eq top x)
+no_extra keys texts master vault (x ∷ y ∷ []) role = by_top (part_eq top x)
   where
     expected_where : new_root master vault (cm_folder_of keys []) (x ∷ y ∷ []) ≡ NoEntry → ⊥
     expected_where none = let clash : Expected ≡ Extra = sym (no_role_of_nothing (x ∷ y ∷ [])) ∙ ap (cm_role (x ∷ y ∷ [])) (sym none) ∙ role in cc
 
     shelf_is : cm_role (shelf_named (cm_folder_of keys [])) (new_root master vault (cm_folder_of keys []) (shelf_named (cm_folder_of keys []))) ≡ Shelf
-    shelf_is = ap (cm_role (shelf_named (cm_folder_of keys []))) (shelf_there master vault (cm_folder_of keys [])) ∙ ap (λ b. cond b Shelf Extra) (shelf_text keys folders [])
+    shelf_is = ap (cm_role (shelf_named (cm_folder_of keys []))) (shelf_there master vault (cm_folder_of keys [])) ∙ ap (λ b. cond b Shelf Extra) (shelf_text keys texts [])
 
     by_shelf : top ≡ x → (take 2 (cm_folder_of keys []) ≡ y) ⊎ (bytes_eq (take 2 (cm_folder_of keys [])) y ≡ false) → ⊥
     by_shelf one (inl two) =
@@ -180,15 +182,15 @@ no_extra keys folders master vault (x ∷ y ∷ []) role = by_top (part_eq top x
     by_top : (top ≡ x) ⊎ (bytes_eq top x ≡ false) → ⊥
     by_top (inl one) = by_shelf one (part_eq (take 2 (cm_folder_of keys [])) y)
     by_top (inr apart) = expected_where (outside master vault (cm_folder_of keys []) x (y ∷ []) apart)
-no_extra keys folders master vault (x ∷ y ∷ z ∷ []) role = by_top (part_eq top x)
+no_extra keys texts master vault (x ∷ y ∷ z ∷ []) role = by_top (part_eq top x)
   where
     expected_where : new_root master vault (cm_folder_of keys []) (x ∷ y ∷ z ∷ []) ≡ NoEntry → ⊥
     expected_where none = let clash : Expected ≡ Extra = sym (no_role_of_nothing (x ∷ y ∷ z ∷ [])) ∙ ap (cm_role (x ∷ y ∷ z ∷ [])) (sym none) ∙ role in cc
 
     folder_is : cm_role (folder_named (cm_folder_of keys [])) (new_root master vault (cm_folder_of keys []) (folder_named (cm_folder_of keys []))) ≡ ContentFolder
     folder_is = ap (cm_role (folder_named (cm_folder_of keys []))) (folder_there master vault (cm_folder_of keys []))
-        ∙ ap (λ b. cond b (folder_role (is_base32_text 30 (drop 2 (cm_folder_of keys []))) ContentFolder Folder) Expected) (shelf_text keys folders [])
-        ∙ ap (λ b. cond b ContentFolder Extra) (folder_text keys folders [])
+        ∙ ap (λ b. cond b (folder_role (is_base32_text 30 (drop 2 (cm_folder_of keys []))) ContentFolder Folder) Expected) (shelf_text keys texts [])
+        ∙ ap (λ b. cond b ContentFolder Extra) (folder_text keys texts [])
 
     by_folder : top ≡ x → take 2 (cm_folder_of keys []) ≡ y → (drop 2 (cm_folder_of keys []) ≡ z) ⊎ (bytes_eq (drop 2 (cm_folder_of keys [])) z ≡ false) → ⊥
     by_folder one two (inl three) =
@@ -205,10 +207,10 @@ no_extra keys folders master vault (x ∷ y ∷ z ∷ []) role = by_top (part_eq
     by_top : (top ≡ x) ⊎ (bytes_eq top x ≡ false) → ⊥
     by_top (inl one) = by_shelf one (part_eq (take 2 (cm_folder_of keys [])) y)
     by_top (inr apart) = expected_where (outside master vault (cm_folder_of keys []) x (y ∷ z ∷ []) apart)
-no_extra keys folders master vault (x ∷ y ∷ z ∷ u ∷ rest) role = cc
+no_extra keys texts master vault (x ∷ y ∷ z ∷ u ∷ rest) role = cc
 
-new_clean : (vault : CmVault) (texts : CmTexts vault.keys) → CmFolders vault.keys → (m w : List ℕ) → IsClean (cm_format vault) (new_root m w (cm_folder_of vault.keys []))
-new_clean vault texts folders m w = clean
+new_clean : (vault : CmVault) (texts : CmTexts vault.keys) → (m w : List ℕ) → IsClean (cm_format vault) (new_root m w (cm_folder_of vault.keys []))
+new_clean vault texts m w = clean
   where
     has : HasEmptyRoot (cm_format vault) (new_root m w (cm_folder_of vault.keys [])) (top_of vault)
     has = empty_root vault texts m w
@@ -261,15 +263,15 @@ new_clean vault texts folders m w = clean
     clean is.WrongKind at counts (inl found) = no_unnamed is.WrongKind at found
     clean is.WrongKind at counts (inr found) = no_fault_item is.WrongKind at found
     clean is.ExtraEntry at counts (inl found) = no_inside at found
-    clean is.ExtraEntry at counts (inr found) = no_extra vault.keys folders m w at found
+    clean is.ExtraEntry at counts (inr found) = no_extra vault.keys texts m w at found
     clean is.TwoKinds at counts found = no_fault_item is.TwoKinds at found
     clean is.HeaderDamaged at counts found = cc
     clean is.ChunkDamaged at counts found = cc
     clean is.EmptyOrphan at counts found = cc
 
-pub new_is_empty : (vault : CmVault) → CmTexts vault.keys → CmFolders vault.keys → (m w : List ℕ) → IsEmptyVault (cm_format vault) (new_root m w (cm_folder_of vault.keys []))
-new_is_empty vault texts folders m w = record {
-  clean = new_clean vault texts folders m w;
-  root = root_opens (cm_format vault) (new_root m w (cm_folder_of vault.keys [])) (top_of vault) (empty_root vault texts m w);
+pub new_is_empty : (vault : CmVault) → CmTexts vault.keys → (m w : List ℕ) → IsEmptyVault (cm_format vault) (new_root m w (cm_folder_of vault.keys []))
+new_is_empty vault texts m w = record {
+  clean = new_clean vault texts m w;
+  root = (top_of vault, root_entered (cm_format vault) (new_root m w (cm_folder_of vault.keys [])) (top_of vault) (empty_root vault texts m w));
   others = nothing_opens (cm_format vault) (new_root m w (cm_folder_of vault.keys [])) (top_of vault) (empty_root vault texts m w);
 }

@@ -4,6 +4,7 @@ use Rattle.std.proofs.lemmas.Slice.Eq.{bytes_eq-Decides}
 use Rattle.folder_spec.specs.Path.{Part, Path}
 use Rattle.folder_spec.specs.View.{Found, Folder, FileOf, View}
 use Rattle.vault_names.specs.Cryptomator.{cm_folder_of}
+use Rattle.vault_spec.specs.StoredNames.{CmTexts}
 use Rattle.vault_spec.specs.Findings.{IsFileAt}
 use Rattle.vault_spec.specs.Format.{Item, Nothing, FileItem, DirectoryItem, NoItem, Expected, Shelf, ContentFolder, Extra, is_file}
 use Rattle.vault_spec.specs.Cryptomator.{CmVault, cm_format, cm_item, cm_item_of, cm_role, content_file, content_folder, file_role, folder_item, folder_role, full_file, has_file, id_file, inner_role, is_base32_text, is_configuration, symlink_file, top}
@@ -11,8 +12,8 @@ use Rattle.vault_spec.specs.Moving.{StraysGoAlone}
 use Rattle.vault_spec.specs.RootFiles.{is_root_file}
 use Rattle.vault_spec.proofs.StrayLaws.{KnowsStrays}
 use Rattle.vault_spec.proofs.StraysAlone.{strays_alone}
-use Rattle.vault_spec.proofs.CmVault.{CmTexts, is_mark, item_by_kind, item_by_marks, content_size, cm_lawful}
-use Rattle.vault_spec.proofs.CmKeeping.{CmFolders, shelf_text, shelf_role, folder_is}
+use Rattle.vault_spec.proofs.CmVault.{is_mark, item_by_kind, item_by_marks, content_size, cm_lawful}
+use Rattle.vault_spec.proofs.CmKeeping.{shelf_text, shelf_role, folder_is}
 
 -- a mark that is a file belongs in the folder
 id_belongs : (long contents symlink : Bool) (bytes : List ℕ) → inner_role long (folder_item long contents true symlink) id_file (FileOf bytes) ≡ Expected
@@ -88,26 +89,26 @@ never_in_entries : (p q r : Part) (x y z a : Part) (rest : Path) → p ∷ q ∷
 never_in_entries p q r x y z a rest same = cc
 
 -- the folders above a content folder have their places
-above_role : (vault : CmVault) → CmFolders vault.keys → (id : List ℕ) (p rest : Path) → content_folder vault.keys id ≡ p ++ rest → cm_role p Folder ≢ Extra
-above_role vault folders id [] rest above extra = cc
-above_role vault folders id (a ∷ []) rest above extra =
+above_role : (vault : CmVault) → CmTexts vault.keys → (id : List ℕ) (p rest : Path) → content_folder vault.keys id ≡ p ++ rest → cm_role p Folder ≢ Extra
+above_role vault texts id [] rest above extra = cc
+above_role vault texts id (a ∷ []) rest above extra =
     let first : a ≡ top = cc in
     let clash : Expected ≡ Extra = sym (ap (λ x. cm_role (x ∷ []) Folder) first) ∙ extra in cc
-above_role vault folders id (a ∷ b ∷ []) rest above extra =
+above_role vault texts id (a ∷ b ∷ []) rest above extra =
     let first : a ≡ top = cc in
     let second : b ≡ take 2 (cm_folder_of vault.keys id) = cc in
     let shelf : cm_role (a ∷ b ∷ []) Folder ≡ Shelf = ap (λ x. cm_role (x ∷ b ∷ []) Folder) first ∙ ap (λ x. cm_role (top ∷ x ∷ []) Folder) second
-    ∙ ap (λ t. cond t Shelf Extra) (shelf_text vault.keys folders id) in
+    ∙ ap (λ t. cond t Shelf Extra) (shelf_text vault.keys texts id) in
     let clash : Shelf ≡ Extra = sym shelf ∙ extra in cc
-above_role vault folders id (a ∷ b ∷ c ∷ []) rest above extra =
+above_role vault texts id (a ∷ b ∷ c ∷ []) rest above extra =
     let first : a ≡ top = cc in
     let second : b ≡ take 2 (cm_folder_of vault.keys id) = cc in
     let third : c ≡ drop 2 (cm_folder_of vault.keys id) = cc in
     let role : cm_role (a ∷ b ∷ c ∷ []) Folder ≡ ContentFolder
     = ap (λ x. cm_role (x ∷ b ∷ c ∷ []) Folder) first ∙ ap (λ x. cm_role (top ∷ x ∷ c ∷ []) Folder) second ∙ ap (λ x. cm_role (top ∷ take 2 (cm_folder_of vault.keys id) ∷ x ∷ []) Folder) third
-    ∙ folder_is vault folders id in
+    ∙ folder_is vault texts id in
     let clash : ContentFolder ≡ Extra = sym role ∙ extra in cc
-above_role vault folders id (a ∷ b ∷ c ∷ e ∷ p) rest above extra = cc
+above_role vault texts id (a ∷ b ∷ c ∷ e ∷ p) rest above extra = cc
 
 -- and none of them is a content folder
 above_content : (vault : CmVault) (id : List ℕ) (p rest : Path) → content_folder vault.keys id ≡ p ++ rest → cm_role p Folder ≡ ContentFolder → p ≡ content_folder vault.keys id
@@ -150,9 +151,9 @@ below_role (x ∷ y ∷ []) a rest there role = shelf_below x y a rest there (by
 below_role (x ∷ y ∷ z ∷ []) a rest there role = refl
 below_role (x ∷ y ∷ z ∷ e ∷ p) a rest there role = refl
 
-cm_strays : (vault : CmVault) (texts : CmTexts vault.keys) → CmFolders vault.keys → KnowsStrays (cm_format vault) (cm_lawful vault texts)
+cm_strays : (vault : CmVault) (texts : CmTexts vault.keys) → KnowsStrays (cm_format vault) (cm_lawful vault texts)
 unfolding cm_lawful
-cm_strays vault texts folders = record {
+cm_strays vault texts = record {
   layout = inr (record {
     apart = λ at place key other a rest. never_in_entries top (take 2 (cm_folder_of vault.keys key)) (drop 2 (cm_folder_of vault.keys key))
         top (take 2 (cm_folder_of vault.keys other)) (drop 2 (cm_folder_of vault.keys other)) a rest;
@@ -169,7 +170,7 @@ cm_strays vault texts folders = record {
   role_in_no_item = λ long finding x there. refl;
   root_role = λ there. refl;
   entry_role = λ at key a rest there. refl;
-  folder_role = λ at key p rest above extra. above_role vault folders key p rest above extra;
+  folder_role = λ at key p rest above extra. above_role vault texts key p rest above extra;
   folder_content = λ at key p rest above is. above_content vault key p rest above is;
   below_role = below_role;
 }
@@ -178,5 +179,5 @@ cm_strays vault texts folders = record {
     by_size rest (inl none) = inl none
     by_size rest (inr content) = inr (content_file, refl, content)
 
-pub cm_strays_alone : (vault : CmVault) → CmTexts vault.keys → CmFolders vault.keys → StraysGoAlone (cm_format vault)
-cm_strays_alone vault texts folders = strays_alone (cm_format vault) (cm_lawful vault texts) (cm_strays vault texts folders)
+pub cm_strays_alone : (vault : CmVault) → CmTexts vault.keys → StraysGoAlone (cm_format vault)
+cm_strays_alone vault texts = strays_alone (cm_format vault) (cm_lawful vault texts) (cm_strays vault texts)

@@ -6,6 +6,7 @@ use Rattle.folder_spec.specs.Edit.{Edit, edited, directory_edit, view_after}
 use Rattle.plain_tree.specs.Names as plain
 use Rattle.plain_tree.specs.Names.{is_name}
 use Rattle.vault_names.specs.Cryptomator.{cm_stored, cm_folder_of}
+use Rattle.vault_spec.specs.StoredNames.{CmTexts}
 use Rattle.vault_spec.specs.Format.{Directory, Expected, ContentFolder}
 use Rattle.vault_spec.specs.Cryptomator.{CmVault, cm_format, cm_role, directory_id, shelf_named, content_folder, taken_entry, folder_where_free}
 use Rattle.vault_spec.specs.Standing.{Dir, entry_at, root_of, standing_in}
@@ -16,9 +17,9 @@ use Rattle.vault_spec.specs.Tidy.{IsTidy, NewItemsStayTidy}
 use Rattle.vault_spec.proofs.Steps.{along}
 use Rattle.vault_spec.proofs.Grafts.{reached_right}
 use Rattle.vault_spec.proofs.Places.{IsNew, new_after_side, still_leads, brought_there}
-use Rattle.vault_spec.proofs.CmVault.{CmTexts, cm_lawful}
+use Rattle.vault_spec.proofs.CmVault.{cm_lawful}
 use Rattle.vault_spec.proofs.CmAdding.{entry_spares, new_file_at, directory_at, its_item, its_full, its_id, directory_stands, folder_side, folder_ready, by_shelf, new_at, folder_free, new_after_shelf}
-use Rattle.vault_spec.proofs.CmKeeping.{CmFolders, shelf_role, cm_keeps}
+use Rattle.vault_spec.proofs.CmKeeping.{shelf_role, cm_keeps}
 use Rattle.vault_spec.proofs.CmNew.{new_root, top_of, empty_root, no_content_folder}
 use Rattle.vault_spec.proofs.Tidying.{IsAt, tidy_after}
 
@@ -35,13 +36,13 @@ no_entry_folder : (vault : CmVault) (texts : CmTexts vault.keys) (v w : View) (f
 no_entry_folder vault texts v w front dir x at leads here idle =
     let clash : Expected ≡ ContentFolder = sym (entry_role vault texts v front dir x (w at) leads) ∙ ap (λ p. cm_role p (w at)) (sym here) ∙ idle.loose.folder in cc
 
-new_file_tidy : (vault : CmVault) (texts : CmTexts vault.keys) → CmFolders vault.keys → (v : View) (front : plain.Path) (dir : Directory) (name bytes : List ℕ)
+new_file_tidy : (vault : CmVault) (texts : CmTexts vault.keys) → (v : View) (front : plain.Path) (dir : Directory) (name bytes : List ℕ)
     → IsOrderly (cm_format vault) v → IsTidy (cm_format vault) v → Leads (cm_format vault) v front dir → IsTrue (is_name name)
     → taken_entry v dir (cm_stored vault.keys vault.threshold dir.key name) ≡ None
     → IsTidy (cm_format vault) (view_after v ((cm_format vault).new_file v dir (cm_stored vault.keys vault.threshold dir.key name) bytes))
-new_file_tidy vault texts folders v front dir name bytes orderly tidy leads named none =
+new_file_tidy vault texts v front dir name bytes orderly tidy leads named none =
     tidy_after (cm_format vault) (cm_lawful vault texts) v ((cm_format vault).new_file v dir (cm_stored vault.keys vault.threshold dir.key name) bytes)
-    ((cm_keeps vault texts folders).file v front dir name bytes orderly leads named none) tidy (λ at here. no_name vault w at) no_folder
+    ((cm_keeps vault texts).file v front dir name bytes orderly leads named none) tidy (λ at here. no_name vault w at) no_folder
   where
     w : View
     w = view_after v ((cm_format vault).new_file v dir (cm_stored vault.keys vault.threshold dir.key name) bytes)
@@ -105,13 +106,13 @@ reached_then vault texts v front dir name id orderly leads named is_id none =
     new : IsNew (cm_format vault) v front dir name (directory_at vault dir name id)
     new = new_at vault texts v front dir name id orderly.folders leads named none
 
-new_directory_tidy : (vault : CmVault) (texts : CmTexts vault.keys) → CmFolders vault.keys → (v : View) (front : plain.Path) (dir : Directory) (name id : List ℕ)
+new_directory_tidy : (vault : CmVault) (texts : CmTexts vault.keys) → (v : View) (front : plain.Path) (dir : Directory) (name id : List ℕ)
     → IsOrderly (cm_format vault) v → IsTidy (cm_format vault) v → Leads (cm_format vault) v front dir → IsTrue (is_name name) → directory_id id ≡ Some id
     → (cm_format vault).taken_for_directory v dir (cm_stored vault.keys vault.threshold dir.key name) id ≡ None
     → IsTidy (cm_format vault) (view_after v ((cm_format vault).new_directory v dir (cm_stored vault.keys vault.threshold dir.key name) id))
-new_directory_tidy vault texts folders v front dir name id orderly tidy leads named is_id none =
+new_directory_tidy vault texts v front dir name id orderly tidy leads named is_id none =
     tidy_after (cm_format vault) (cm_lawful vault texts) v ((cm_format vault).new_directory v dir (cm_stored vault.keys vault.threshold dir.key name) id)
-    ((cm_keeps vault texts folders).directory v front dir name id orderly leads named is_id none) tidy (λ at here. no_name vault w at) no_folder
+    ((cm_keeps vault texts).directory v front dir name id orderly leads named is_id none) tidy (λ at here. no_name vault w at) no_folder
   where
     w : View
     w = view_after v ((cm_format vault).new_directory v dir (cm_stored vault.keys vault.threshold dir.key name) id)
@@ -124,8 +125,8 @@ new_directory_tidy vault texts folders v front dir name id orderly tidy leads na
           | inr (inr entry) ↦ no_entry_folder vault texts v w front dir (cm_stored vault.keys vault.threshold dir.key name).name at leads entry idle
         ]
 
-pub cm_items_tidy : (vault : CmVault) → CmTexts vault.keys → CmFolders vault.keys → NewItemsStayTidy (cm_format vault)
-cm_items_tidy vault texts folders = record { file = new_file_tidy vault texts folders; directory = new_directory_tidy vault texts folders }
+pub cm_items_tidy : (vault : CmVault) → CmTexts vault.keys → NewItemsStayTidy (cm_format vault)
+cm_items_tidy vault texts = record { file = new_file_tidy vault texts; directory = new_directory_tidy vault texts }
 
 -- in a new vault the one content folder is the root's
 pub cm_new_tidy : (vault : CmVault) → CmTexts vault.keys → (m w : List ℕ) → IsTidy (cm_format vault) (new_root m w (cm_folder_of vault.keys []))

@@ -1,4 +1,5 @@
 -- Cryptomator's format is lawful.
+use Rattle.vault_spec.specs.StoredNames.{CmTexts}
 use Rattle.vault_spec.specs.Findings.{IsFileAt}
 use Rattle.vault_spec.proofs.PathEnds.{child-both}
 use Rattle.std.proofs.Common.{◌≡◌, ◌≢◌, ℕ, Bool, true, false, ◌&&◌, ◌||◌, List, [], ◌∷◌, ◌++◌, cond, refl, sym, ap, ◌∙◌, inr, subst, Some, None, Option, IsTrue, length, codes, arith, nat_le, bytes_eq, ◌⊎◌, ◌+◌, inl, length-append, append-nil, is_some}
@@ -15,12 +16,6 @@ use Rattle.vault_spec.specs.Cryptomator.{CmVault, cm_format, cm_item_of, cm_role
 use Rattle.vault_spec.proofs.Entries.{one_text, same_forms}
 use Rattle.vault_spec.proofs.Lawful.{IsLawful}
 use Rattle.vault_spec.proofs.ByteKeys.{given, are_bytes}
-
--- the laws of texts under the keys
-pub record CmTexts (keys : CmKeys) : Type 0 where
-  pub one : (id name other text : List ℕ) → AreBytes id → IsCmTextOf keys id name text → IsCmTextOf keys id other text → name ≡ other
-  pub plain : (id name : List ℕ) → AreBytes id → IsTrue (is_name name) → IsPlainUpTo (codes ".c9r") (cm_text keys id name)
-  pub long_plain : (text : List ℕ) → IsPlainUpTo (codes ".c9s") (cm_long_name text)
 
 -- a text isn't a long entry's name: their last characters differ
 abbrev last_or : ℕ → List ℕ → ℕ

@@ -5,7 +5,7 @@ use Rattle.plain_tree.specs.Names as plain
 use Rattle.vault_spec.specs.Format.{Format, Directory}
 use Rattle.vault_spec.specs.Standing.{Standing, Absent, Strange, File, Dir, root_of, standing_in, standing_from, standing}
 use Rattle.vault_spec.specs.Opens as opens
-use Rattle.vault_spec.specs.Opens.{opened, opened_at}
+use Rattle.vault_spec.specs.Opens.{opened}
 use Rattle.vault_spec.specs.Reached.{Leads}
 use Rattle.vault_spec.specs.Alike.{IsNoItem}
 use Rattle.vault_spec.proofs.Steps.{behind_no_item, opens_alike}
@@ -18,10 +18,9 @@ pub nothing_stands : (f : Format) (v : View) (top : Directory) → HasEmptyRoot 
 nothing_stands f v top has name rest =
     subst (λ s. IsNoItem (standing_from f v s (name ∷ rest))) (sym has.root) (behind_no_item f v (standing_in f v top name) rest (has.empty name))
 
--- its root alone opens
-pub root_opens : (f : Format) (v : View) (top : Directory) → HasEmptyRoot f v top → opened f v [] ≡ opens.Directory
-unfolding opened
-root_opens f v top has = ap (opened_at f v) has.root
+-- so the root is entered, and nothing opens below it
+pub root_entered : (f : Format) (v : View) (top : Directory) → HasEmptyRoot f v top → Leads f v [] top
+root_entered f v top has = record { at = []; stands = has.root }
 
 pub nothing_opens : (f : Format) (v : View) (top : Directory) → HasEmptyRoot f v top → (name : List ℕ) (rest : plain.Path) → opened f v (name ∷ rest) ≡ opens.NoItem
 unfolding opened

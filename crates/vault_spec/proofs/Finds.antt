@@ -1,10 +1,11 @@
 -- Looking for a plain path finds what stands there.
-use Rattle.std.proofs.Common.{◌≡◌, [], ◌∷◌, ◌++◌, Result, Ok, Err}
+use Rattle.std.proofs.Common.{◌≡◌, [], ◌∷◌, ◌++◌, Result, Ok, Err, ap, subst}
 use Rattle.folder_spec.specs.Path.{Path}
 use Rattle.folder_spec.specs.View.{View}
 use Rattle.plain_tree.specs.Names as plain
 use Rattle.vault_spec.specs.Format.{Format, Directory}
 use Rattle.vault_spec.specs.Standing.{Standing, Absent, Strange, File, Dir, root_of, standing, standing_from, standing_in}
+use Rattle.vault_spec.specs.Alike.{IsNoItem}
 use Rattle.vault_spec.specs.Find.{find, find_from, enter, enter_from}
 use Rattle.vault_spec.specs.Reached.{Leads}
 use Rattle.vault_spec.specs.declared.Lack.{Lack}
@@ -22,31 +23,18 @@ found_from f v front (File at) (name ∷ rest) there e = cc
 found_from f v front (Dir at (Err lack)) (name ∷ rest) there e = cc
 found_from f v front (Dir at (Ok dir)) (name ∷ rest) there e = found_from f v (front ++ name ∷ []) (standing_in f v dir name) rest there e
 
--- a file that stands there is found
-pub file_from : (f : Format) (v : View) (front : plain.Path) (here : Standing) (path : plain.Path) (at : Path)
-    → standing_from f v here path ≡ File at → find_from f v front here path ≡ Ok (File at)
-file_from f v front Absent [] at e = cc
-file_from f v front (Strange there) [] at e = cc
-file_from f v front (File there) [] at e = cc
-file_from f v front (Dir there directory) [] at e = cc
-file_from f v front Absent (name ∷ rest) at e = cc
-file_from f v front (Strange there) (name ∷ rest) at e = cc
-file_from f v front (File there) (name ∷ rest) at e = cc
-file_from f v front (Dir there (Err lack)) (name ∷ rest) at e = cc
-file_from f v front (Dir there (Ok dir)) (name ∷ rest) at e = file_from f v (front ++ name ∷ []) (standing_in f v dir name) rest at e
-
--- and a directory
-pub directory_from : (f : Format) (v : View) (front : plain.Path) (here : Standing) (path : plain.Path) (at : Path) (directory : Result Directory Lack)
-    → standing_from f v here path ≡ Dir at directory → find_from f v front here path ≡ Ok (Dir at directory)
-directory_from f v front Absent [] at directory e = cc
-directory_from f v front (Strange there) [] at directory e = cc
-directory_from f v front (File there) [] at directory e = cc
-directory_from f v front (Dir there found) [] at directory e = cc
-directory_from f v front Absent (name ∷ rest) at directory e = cc
-directory_from f v front (Strange there) (name ∷ rest) at directory e = cc
-directory_from f v front (File there) (name ∷ rest) at directory e = cc
-directory_from f v front (Dir there (Err lack)) (name ∷ rest) at directory e = cc
-directory_from f v front (Dir there (Ok dir)) (name ∷ rest) at directory e = directory_from f v (front ++ name ∷ []) (standing_in f v dir name) rest at directory e
+-- an item that stands there is found
+pub item_from : (f : Format) (v : View) (front : plain.Path) (here : Standing) (path : plain.Path) (there : Standing)
+    → ¬ IsNoItem there → standing_from f v here path ≡ there → find_from f v front here path ≡ Ok there
+item_from f v front (File at) [] there item e = ap Ok e
+item_from f v front (Dir at directory) [] there item e = ap Ok e
+item_from f v front (Dir at (Ok dir)) (name ∷ rest) there item e = item_from f v (front ++ name ∷ []) (standing_in f v dir name) rest there item e
+item_from f v front (Strange at) [] there item e = absurd (item (subst IsNoItem e (record {})))
+item_from f v front Absent [] there item e = absurd (item (subst IsNoItem e (record {})))
+item_from f v front Absent (name ∷ rest) there item e = absurd (item (subst IsNoItem e (record {})))
+item_from f v front (Strange at) (name ∷ rest) there item e = absurd (item (subst IsNoItem e (record {})))
+item_from f v front (File at) (name ∷ rest) there item e = absurd (item (subst IsNoItem e (record {})))
+item_from f v front (Dir at (Err lack)) (name ∷ rest) there item e = absurd (item (subst IsNoItem e (record {})))
 
 -- a directory that is entered stands there
 pub entered_from : (f : Format) (v : View) (front : plain.Path) (here : Standing) (path : plain.Path) (dir : Directory)
@@ -82,12 +70,12 @@ found_stands f v path here e = found_from f v [] (root_of f v) path here e
 
 pub file_found : (f : Format) (v : View) (path : plain.Path) (at : Path) → standing f v path ≡ File at → find f v path ≡ Ok (File at)
 unfolding find
-file_found f v path at e = file_from f v [] (root_of f v) path at e
+file_found f v path at e = item_from f v [] (root_of f v) path (File at) (λ none. none) e
 
 pub directory_found : (f : Format) (v : View) (path : plain.Path) (at : Path) (directory : Result Directory Lack)
     → standing f v path ≡ Dir at directory → find f v path ≡ Ok (Dir at directory)
 unfolding find
-directory_found f v path at directory e = directory_from f v [] (root_of f v) path at directory e
+directory_found f v path at directory e = item_from f v [] (root_of f v) path (Dir at directory) (λ none. none) e
 
 pub entered_leads : (f : Format) (v : View) (path : plain.Path) (dir : Directory) → enter f v path ≡ Ok dir → Leads f v path dir
 unfolding enter

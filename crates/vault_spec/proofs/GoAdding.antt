@@ -14,6 +14,7 @@ use Rattle.plain_tree.specs.Names as plain
 use Rattle.plain_tree.specs.Names.{is_name}
 use Rattle.vault_names.specs.Gocryptfs.{go_text, long_name, entry_of, stored}
 use Rattle.vault_names.specs.declared.entry.Stored.{Stored}
+use Rattle.vault_spec.specs.StoredNames.{GoTexts}
 use Rattle.vault_spec.specs.declared.Lack.TheVariants.{NoFolder}
 use Rattle.vault_spec.specs.Format.{Directory, file_bytes, is_folder, taken_at, key_of}
 use Rattle.vault_spec.specs.Gocryptfs.{key_file, full_name, directory_key, go_item, go_format, full_edits, full_edits_at, taken_unless, go_taken}
@@ -29,7 +30,7 @@ use Rattle.vault_spec.proofs.Lawful.{SparesConfiguration}
 use Rattle.vault_spec.proofs.Places.{IsSide, brought, brought_there, arrived, IsNew, new_after_side, Arrives, SparesAll, leads_from_root, file_alone, file_folders, folder_folders}
 use Rattle.vault_spec.proofs.MadeItems.{HasOwnFolder, IsLast, IsMade, MakesItems}
 use Rattle.vault_spec.proofs.Entries.{differ, long_entry, IsShortOrLong, entry_is}
-use Rattle.vault_spec.proofs.GoNames.{GoTexts, entry_not_key, entry_not_full, full_not_key}
+use Rattle.vault_spec.proofs.GoNames.{entry_not_key, entry_not_full, full_not_key}
 use Rattle.vault_spec.proofs.GoVault.{go_lawful, is_go_key, key_is, text_plain, entry_spares_configuration}
 
 -- a place in a reached folder spares what is there, where its name is neither a key file's nor that of the long-name file of what is there

@@ -9,6 +9,7 @@ use Rattle.plain_tree.specs.Names as plain
 use Rattle.plain_tree.specs.Names.{is_name}
 use Rattle.vault_names.specs.Gocryptfs.{long_name, stored, entry_of}
 use Rattle.vault_names.specs.declared.entry.Stored.{Stored}
+use Rattle.vault_spec.specs.StoredNames.{GoTexts}
 use Rattle.vault_spec.specs.declared.Finding.{Finding}
 use Rattle.vault_spec.specs.declared.Finding.TheVariants as is
 use Rattle.vault_spec.specs.Format.{Directory, Nothing, NoItem, taken_at}
@@ -22,7 +23,7 @@ use Rattle.vault_spec.specs.Vault.{Gocryptfs}
 use Rattle.vault_spec.proofs.Accounted.{accounted}
 use Rattle.vault_spec.proofs.Entries.{long_entry}
 use Rattle.vault_spec.proofs.FreePlaces.{OfNoItem, KnowsEntries, entry_free}
-use Rattle.vault_spec.proofs.GoNames.{GoTexts, full_is_full, entry_not_fixed, name_is_not_full}
+use Rattle.vault_spec.proofs.GoNames.{full_is_full, entry_not_fixed, name_is_not_full}
 use Rattle.vault_spec.proofs.GoVault.{go_lawful}
 use Rattle.vault_spec.proofs.GoAdding.{IsOfText, text_under, of_text, long_is, full_place, name_not_full}
 

@@ -1,5 +1,6 @@
 -- Each edit of a new item of gocryptfs keeps a vault clean.
 use Rattle.std.proofs.Common.{◌≡◌, ◌≢◌, ℕ, Bool, true, false, ◌||◌, List, [], ◌∷◌, ◌++◌, Ok, Err, cond, refl, sym, ap, ◌∙◌, subst, Some, None, IsTrue, is_some, bytes_eq}
+use Rattle.std.proofs.lemmas.Bool.{or_right}
 use Rattle.std.proofs.lemmas.Slice.Eq.{bytes_eq-Decides}
 use Rattle.folder_spec.specs.Path.{Part, Path, child}
 use Rattle.folder_spec.specs.View.{NoEntry, FileOf, View}
@@ -9,6 +10,7 @@ use Rattle.plain_tree.specs.Names as plain
 use Rattle.plain_tree.specs.Names.{is_name}
 use Rattle.vault_names.specs.Gocryptfs.{long_name, stored}
 use Rattle.vault_names.specs.declared.entry.Stored.{Stored}
+use Rattle.vault_spec.specs.StoredNames.{GoTexts}
 use Rattle.vault_spec.specs.Format.{Directory, DirectoryItem}
 use Rattle.vault_spec.specs.Gocryptfs.{key_file, full_name, is_full_name, is_fixed_name, directory_key, go_format, go_taken, full_edits}
 use Rattle.vault_spec.specs.Standing.{Dir, entry_at, holds_full, standing_in}
@@ -20,9 +22,9 @@ use Rattle.vault_spec.specs.Alike.{IsOrderly}
 use Rattle.vault_spec.proofs.Entries.{long_entry}
 use Rattle.vault_spec.proofs.PathEnds.{child-both}
 use Rattle.vault_spec.proofs.Places.{brought_there, IsSide, side_orderly, IsNew, new_after_side}
-use Rattle.vault_spec.proofs.StaysClean.{IsBare, IsSideFile, IsApart, KeepsClean, KeepEach, KeepsItems}
-use Rattle.vault_spec.proofs.Keeping.{free_is_apart, HasPlace, side_keeps, BringsWhole, item_keeps, file_brings}
-use Rattle.vault_spec.proofs.GoNames.{GoTexts, full_is_full, name_is_not_full}
+use Rattle.vault_spec.proofs.StaysClean.{IsBare, IsSideFile, IsApart, KeepsClean, KeepEach, KeepsItems, HasPlace}
+use Rattle.vault_spec.proofs.Keeping.{free_is_apart, side_keeps, BringsWhole, item_keeps, file_brings}
+use Rattle.vault_spec.proofs.GoNames.{full_is_full, name_is_not_full}
 use Rattle.vault_spec.proofs.GoVault.{go_lawful}
 use Rattle.vault_spec.proofs.GoAdding.{full_place, IsOfText, of_text, long_is, entry_spares, ArrivesAnywhere, still_held, now_held, full_side, by_edits, is_new, file_arrives, directory_stands, directory_arrives, brought_here, no_entries}
 
@@ -59,12 +61,8 @@ full_belongs texts keys v front dir name e text new is = record {
     full : is_full_name (full_name (stored keys.names dir.key name).name) ≡ true
     full = ap (λ (s : Stored). is_full_name (full_name s.name)) is_long.1 ∙ full_is_full is_long.0 texts
 
-    or_true : (a b : Bool) → b ≡ true → (a || b) ≡ true
-    or_true true b is = refl
-    or_true false b is = is
-
     belongs_by_name : (is_fixed_name dir.folder (full_name (stored keys.names dir.key name).name) || is_full_name (full_name (stored keys.names dir.key name).name)) ≡ true
-    belongs_by_name = or_true (is_fixed_name dir.folder (full_name (stored keys.names dir.key name).name)) (is_full_name (full_name (stored keys.names dir.key name).name)) full
+    belongs_by_name = or_right (is_fixed_name dir.folder (full_name (stored keys.names dir.key name).name)) (is_full_name (full_name (stored keys.names dir.key name).name)) full
 
 -- the last edit brings a whole item
 abbrev WholeAnywhere : GoKeys → Directory → List ℕ → Edit → Type 0

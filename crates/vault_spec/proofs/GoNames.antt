@@ -1,6 +1,7 @@
 -- What a gocryptfs vault's format needs of stored names, from the laws of texts.
-use Rattle.std.proofs.Common.{◌≡◌, ◌≢◌, ℕ, ◌+◌, ◌-◌, ◌⊎◌, Bool, true, false, List, ◌++◌, refl, sym, ap, ◌∙◌, inl, inr, IsTrue, length, take, codes, arith, length-append, drop, ◌&&◌, ◌||◌, [], ◌∷◌, bytes_eq}
-use Rattle.std.specs.List.{list_all}
+use Rattle.std.proofs.Common.{◌≡◌, ◌≢◌, ℕ, ◌+◌, ◌-◌, ◌⊎◌, Bool, true, false, List, ◌++◌, refl, sym, ap, ◌∙◌, inl, inr, IsTrue, length, take, codes, arith, length-append, drop, ◌&&◌, ◌||◌, [], ◌∷◌, bytes_eq, nat_eq}
+use Rattle.std.specs.List.{list_all, starts_with}
+use Rattle.std.proofs.lemmas.Bool.{false_from_ne_true}
 use Rattle.std.proofs.lemmas.List.{take-append-drop, take-append-le}
 use Rattle.std.proofs.Math.Seq.{drop-append_seam, drop-append-add}
 use Rattle.std.proofs.lemmas.Slice.Eq.{bytes_eq-Decides}
@@ -10,17 +11,14 @@ use Rattle.plain_tree.specs.Names.{is_name}
 use Rattle.vault_names.specs.Gocryptfs.{go_text, long_name, entry_of, IsTextOf}
 use Rattle.vault_names.specs.declared.entry.Stored.{Stored}
 use Rattle.folder_spec.specs.Path.{Path}
+use Rattle.vault_spec.specs.StoredNames.{GoTexts}
 use Rattle.vault_spec.specs.RootFiles.{has_ending, is_root_file}
 use Rattle.vault_spec.proofs.ByteKeys.{front_plain, right_plain}
 use Rattle.vault_spec.proofs.Entries.{differ, IsShortOrLong, entry_is}
-use Rattle.vault_spec.specs.Gocryptfs.{key_file, full_name, has_long_form, is_full_name, is_fixed_name}
+use Rattle.vault_spec.specs.Gocryptfs.{key_file, full_name, is_full_name, is_fixed_name}
 
-pub record GoTexts : Type 0 where
-  pub one : (key iv text name other : List ℕ) → IsBlock iv → IsTextOf key iv name text → IsTextOf key iv other text → name ≡ other
-  pub plain : (key iv name : List ℕ) → IsBlock iv → IsTrue (is_name name) → IsTrue (list_all is_base64url (go_text key iv name))
-  pub long_size : (text : List ℕ) → length (long_name text) ≡ 62
-  pub long_prefix : (text : List ℕ) → take 19 (long_name text) ≡ codes "gocryptfs.longname."
-  pub long_rest : (text : List ℕ) → IsTrue (list_all is_base64url (drop 19 (long_name text)))
+abbrev begins_long : List ℕ → Bool
+begins_long name = starts_with nat_eq name (codes "gocryptfs.longname.")
 
 -- a text isn't a long entry's name, nor does it begin with one
 pub not_long : (text other rest : List ℕ) → GoTexts → IsTrue (list_all is_base64url text) → text ≢ long_name other ++ rest
@@ -79,7 +77,7 @@ full_is_full text texts = ap (λ b. b && has_ending (codes ".name") (full_name (
     front : take 19 (full_name (long_name text)) ≡ codes "gocryptfs.longname."
     front = take-append-le 19 (long_name text) (codes ".name") (omega (arith, size)) ∙ texts.long_prefix text
 
-    long : has_long_form (full_name (long_name text)) ≡ true
+    long : begins_long (full_name (long_name text)) ≡ true
     long = (bytes_eq-Decides (codes "gocryptfs.longname.") (take 19 (full_name (long_name text)))).1 (sym front)
 
     whole : length (full_name (long_name text)) - 5 ≡ length (long_name text)
@@ -89,13 +87,9 @@ full_is_full text texts = ap (λ b. b && has_ending (codes ".name") (full_name (
     ending = (bytes_eq-Decides (codes ".name") (drop (length (full_name (long_name text)) - 5) (full_name (long_name text)))).1
         (sym (ap (λ n. drop n (full_name (long_name text))) whole ∙ drop-append_seam (long_name text) (codes ".name")))
 
-not_so : (b : Bool) → (b ≡ true → ⊥) → b ≡ false
-not_so true never = absurd (never refl)
-not_so false never = refl
-
 -- what has only such characters has no other ending
 ends_plain : (text ending : List ℕ) → IsTrue (list_all is_base64url text) → list_all is_base64url ending ≡ false → has_ending ending text ≡ false
-ends_plain text ending plain dotted = not_so (has_ending ending text) (λ is.
+ends_plain text ending plain dotted = false_from_ne_true (has_ending ending text) (λ is.
     let same : ending ≡ drop (length text - length ending) text = (bytes_eq-Decides ending (drop (length text - length ending) text)).0 is in
     let rest : IsTrue (list_all is_base64url (drop (length text - length ending) text))
     = right_plain is_base64url (take (length text - length ending) text) (drop (length text - length ending) text) (ap (list_all is_base64url) (take-append-drop (length text - length ending) text) ∙ plain) in
@@ -103,7 +97,7 @@ ends_plain text ending plain dotted = not_so (has_ending ending text) (λ is.
 
 -- nor has a long entry's name, behind its first 19 characters
 long_ends_plain : (text : List ℕ) → GoTexts → (ending : List ℕ) (before : ℕ) → length ending + before ≡ 43 → list_all is_base64url ending ≡ false → has_ending ending (long_name text) ≡ false
-long_ends_plain text texts ending before sizes dotted = not_so (has_ending ending (long_name text)) (λ is.
+long_ends_plain text texts ending before sizes dotted = false_from_ne_true (has_ending ending (long_name text)) (λ is.
     let same : ending ≡ drop (length (long_name text) - length ending) (long_name text)
     = (bytes_eq-Decides ending (drop (length (long_name text) - length ending) (long_name text))).0 is in
     let plain : IsTrue (list_all is_base64url (drop before (drop 19 (long_name text))))
@@ -128,7 +122,7 @@ name_is_not_full text texts plain = by_form (entry_is long_name 255 text)
     both true b (inr is) = is
     both false b is = refl
 
-    no_form : has_long_form text ≡ true → ⊥
+    no_form : begins_long text ≡ true → ⊥
     no_form is =
         let same : codes "gocryptfs.longname." ≡ take 19 text = (bytes_eq-Decides (codes "gocryptfs.longname.") (take 19 text)).0 is in
         let front : IsTrue (list_all is_base64url (take 19 text))
@@ -142,9 +136,9 @@ name_is_not_full text texts plain = by_form (entry_is long_name 255 text)
         let clash : true ≡ false = sym is ∙ none in cc
 
     by_form : IsShortOrLong long_name 255 text → is_full_name (entry_of text).name ≡ false
-    by_form (inl short) = ap (λ (s : Stored). is_full_name s.name) short ∙ both (has_long_form text) (has_ending (codes ".name") text) (inl (not_so (has_long_form text) no_form))
+    by_form (inl short) = ap (λ (s : Stored). is_full_name s.name) short ∙ both (begins_long text) (has_ending (codes ".name") text) (inl (false_from_ne_true (begins_long text) no_form))
     by_form (inr long) = ap (λ (s : Stored). is_full_name s.name) long
-        ∙ both (has_long_form (long_name text)) (has_ending (codes ".name") (long_name text)) (inr (not_so (has_ending (codes ".name") (long_name text)) no_ending))
+        ∙ both (begins_long (long_name text)) (has_ending (codes ".name") (long_name text)) (inr (false_from_ne_true (has_ending (codes ".name") (long_name text)) no_ending))
 
 -- no entry of a name has the ending of a file of the vault
 entry_ends : (text : List ℕ) → GoTexts → IsTrue (list_all is_base64url text) → (ending : List ℕ) (before : ℕ) → length ending + before ≡ 43 → list_all is_base64url ending ≡ false

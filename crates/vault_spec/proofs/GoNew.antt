@@ -8,6 +8,7 @@ use Rattle.vault_values.specs.declared.keys.GoKeys.{GoKeys}
 use Rattle.plain_tree.specs.Names.{is_name}
 use Rattle.vault_names.specs.Gocryptfs.{stored}
 use Rattle.vault_names.specs.declared.entry.Stored.{Stored}
+use Rattle.vault_spec.specs.StoredNames.{GoTexts}
 use Rattle.vault_spec.specs.declared.Finding.{Finding}
 use Rattle.vault_spec.specs.declared.Lack.{Lack}
 use Rattle.vault_spec.specs.declared.Lack.TheVariants as lacks
@@ -21,8 +22,8 @@ use Rattle.vault_spec.specs.Alike.{IsNoItem}
 use Rattle.vault_spec.specs.Empty.{IsEmptyVault}
 use Rattle.vault_spec.proofs.Grafts.{none_stands, standing_unnamed}
 use Rattle.vault_spec.proofs.StaysClean.{nothing_at}
-use Rattle.vault_spec.proofs.EmptyRoots.{HasEmptyRoot, root_opens, nothing_opens, only_top}
-use Rattle.vault_spec.proofs.GoNames.{GoTexts, entry_not, entry_not_key}
+use Rattle.vault_spec.proofs.EmptyRoots.{HasEmptyRoot, root_entered, nothing_opens, only_top}
+use Rattle.vault_spec.proofs.GoNames.{entry_not, entry_not_key}
 use Rattle.vault_spec.proofs.GoVault.{go_lawful, key_is}
 use Rattle.vault_spec.proofs.Entries.{differ}
 use Rattle.vault_spec.proofs.GoAdding.{IsOfText, text_under}
@@ -132,6 +133,6 @@ new_clean texts keys text key is_key = clean
 pub new_is_empty : GoTexts → (keys : GoKeys) (text key : List ℕ) → directory_key key ≡ Some key → IsEmptyVault (go_format keys) (new_root text key)
 new_is_empty texts keys text key is_key = record {
   clean = new_clean texts keys text key is_key;
-  root = root_opens (go_format keys) (new_root text key) (top_of key) (empty_root texts keys text key is_key);
+  root = (top_of key, root_entered (go_format keys) (new_root text key) (top_of key) (empty_root texts keys text key is_key));
   others = nothing_opens (go_format keys) (new_root text key) (top_of key) (empty_root texts keys text key is_key);
 }

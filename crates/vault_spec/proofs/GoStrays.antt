@@ -5,12 +5,13 @@ use Rattle.folder_spec.specs.Path.{Part, Path}
 use Rattle.vault_values.specs.declared.keys.GoKeys.{GoKeys}
 use Rattle.vault_names.specs.Gocryptfs.{long_name, stored}
 use Rattle.vault_names.specs.declared.entry.Stored.{Stored}
+use Rattle.vault_spec.specs.StoredNames.{GoTexts}
 use Rattle.vault_spec.specs.Gocryptfs.{key_file, full_name, is_full_name, is_fixed_name, go_format}
 use Rattle.vault_spec.specs.Moving.{StraysGoAlone}
 use Rattle.vault_spec.proofs.Entries.{long_entry}
 use Rattle.vault_spec.proofs.StrayLaws.{KnowsStrays}
 use Rattle.vault_spec.proofs.StraysAlone.{strays_alone}
-use Rattle.vault_spec.proofs.GoNames.{GoTexts, entry_not_key, full_is_full, name_is_not_full}
+use Rattle.vault_spec.proofs.GoNames.{entry_not_key, full_is_full, name_is_not_full}
 use Rattle.vault_spec.proofs.GoVault.{content_is, item_by_kind, go_lawful}
 use Rattle.vault_spec.proofs.GoAdding.{IsOfText, text_under, long_is}
 

@@ -7,6 +7,7 @@ use Rattle.folder_spec.specs.Edit.{Edit, file_edit, folder_edit, view_after}
 use Rattle.vault_values.specs.declared.keys.GoKeys.{GoKeys}
 use Rattle.plain_tree.specs.Names as plain
 use Rattle.vault_names.specs.Gocryptfs.{stored}
+use Rattle.vault_spec.specs.StoredNames.{GoTexts}
 use Rattle.vault_spec.specs.Format.{Directory, Expected, ContentFolder}
 use Rattle.vault_spec.specs.Gocryptfs.{key_file, full_name, is_full_name, directory_key, go_format, full_edits, full_edits_at}
 use Rattle.vault_spec.specs.Standing.{entry_at}
@@ -16,7 +17,6 @@ use Rattle.vault_spec.proofs.PathEnds.{child-both}
 use Rattle.vault_spec.proofs.Places.{IsNew}
 use Rattle.vault_spec.proofs.StaysClean.{KeepEach}
 use Rattle.vault_spec.proofs.EmptyRoots.{only_top}
-use Rattle.vault_spec.proofs.GoNames.{GoTexts}
 use Rattle.vault_spec.proofs.GoVault.{go_lawful}
 use Rattle.vault_spec.proofs.GoAdding.{full_place, is_new}
 use Rattle.vault_spec.proofs.GoKeeping.{name_not_full, go_keeps}

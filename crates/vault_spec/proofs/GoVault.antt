@@ -1,11 +1,12 @@
 -- gocryptfs's format is lawful, and a new item of it comes alone.
+use Rattle.vault_spec.specs.StoredNames.{GoTexts}
 use Rattle.vault_spec.specs.Findings.{IsFileAt}
 use Rattle.vault_spec.proofs.PathEnds.{child-both}
 use Rattle.vault_names.specs.declared.entry.Stored.{Stored}
 use Rattle.std.proofs.Common.{◌≡◌, ◌≢◌, ℕ, ◌==◌, Bool, true, false, ◌&&◌, not, List, [], ◌∷◌, refl, sym, ap, ◌∙◌, inl, inr, subst, Some, None, Option, IsTrue, length, append-nil, bytes_eq, ◌++◌, ◌⊎◌, is_some, codes}
 use Rattle.std.specs.Option.{option_and_then}
 use Rattle.std.specs.List.{list_all}
-use Rattle.std.proofs.lemmas.Bool.{eqb-true}
+use Rattle.std.proofs.lemmas.Bool.{and_parts, eqb-true}
 use Rattle.std.proofs.lemmas.Slice.Eq.{bytes_eq-Decides}
 use Rattle.aes_lanes.specs.Bytes.{IsBlock}
 use Rattle.chunk_files.specs.Zeros.{is_all_zero}
@@ -22,9 +23,9 @@ use Rattle.vault_spec.proofs.Grafts.{IsRight, reached_right}
 use Rattle.vault_spec.specs.Format.{Directory, FileItem, is_bytes, file_bytes, key_of}
 use Rattle.vault_spec.specs.Gocryptfs.{key_file, full_name, directory_key, go_item, go_format}
 use Rattle.vault_spec.proofs.Lawful.{IsLawful, SparesConfiguration}
-use Rattle.vault_spec.proofs.ByteKeys.{left_true, right_true, given, are_bytes}
+use Rattle.vault_spec.proofs.ByteKeys.{given, are_bytes}
 use Rattle.vault_spec.proofs.Entries.{one_text, same_forms, entry_is, IsShortOrLong}
-use Rattle.vault_spec.proofs.GoNames.{GoTexts, not_long, entry_not, entry_not_key, entry_not_full}
+use Rattle.vault_spec.proofs.GoNames.{not_long, entry_not, entry_not_key, entry_not_full}
 
 -- sixteen bytes
 unfoldable pub is_go_key : List ℕ → Bool
@@ -33,8 +34,8 @@ is_go_key key = is_bytes key && (length key == 16)
 pub is_block : (key : List ℕ) → is_go_key key ≡ true → IsBlock key
 unfolding is_go_key
 is_block key is = record {
-  sixteen = eqb-true (length key) 16 (right_true (is_bytes key) (length key == 16) is);
-  bytes = are_bytes key (left_true (is_bytes key) (length key == 16) is);
+  sixteen = eqb-true (length key) 16 (and_parts (is_bytes key) (length key == 16) is).1;
+  bytes = are_bytes key (and_parts (is_bytes key) (length key == 16) is).0;
 }
 
 pub key_is : (o : Option (List ℕ)) (key : List ℕ) → option_and_then directory_key o ≡ Some key → is_go_key key ≡ true

@@ -6,6 +6,7 @@ use Rattle.folder_spec.specs.Path.{Part, Path, child, below}
 use Rattle.folder_spec.specs.View.{Found, NoEntry, Folder, FileOf, Special, View, kind_found}
 use Rattle.folder_spec.specs.Seen.{under}
 use Rattle.folder_spec.specs.Edit.{Edit, grafted, edited}
+use Rattle.folder_spec.proofs.Edits.{off_edit}
 use Rattle.folder_spec.proofs.Paths.{begins_or_not, child_begins}
 use Rattle.plain_tree.specs.Names as plain
 use Rattle.plain_tree.specs.Names.{is_name}
@@ -116,15 +117,11 @@ nothing_below v folders at (a ∷ rest) free =
     none (FileOf bytes) is = let up : v at ≡ Folder = folders at a (λ e. cc) in cc
     none Special is = let up : v at ≡ Folder = folders at a (λ e. cc) in cc
 
--- an edit leaves all that isn't at its place or below
-pub edited_elsewhere : (v : View) (e : Edit) (q : Path) → below e.at q ≡ None → edited v e q ≡ v q
-edited_elsewhere v e q none = ap (grafted v e q) none
-
 -- at a free place it leaves all that stands
 pub edited_adds : (v : View) (e : Edit) → HasFolders v → v e.at ≡ NoEntry → (q : Path) → v q ≢ NoEntry → edited v e q ≡ v q
 edited_adds v e folders free q there = elim (begins_or_not e.at q) [
   | inl k ↦ absurd (there (ap v k.1 ∙ nothing_below v folders e.at k.0 free))
-  | inr none ↦ edited_elsewhere v e q none
+  | inr none ↦ off_edit v e q none
 ]
 
 -- and all entries but its own of folders that stand
@@ -134,7 +131,7 @@ edited_entry v e folders free up a there apart = elim (begins_or_not e.at (child
     | inl same ↦ absurd (apart same)
     | inr above ↦ absurd (there (ap v above.1 ∙ nothing_below v folders e.at above.0 free))
   ]
-  | inr none ↦ edited_elsewhere v e (child up a) none
+  | inr none ↦ off_edit v e (child up a) none
 ]
 
 -- what stands under a name, and under what is none
@@ -200,15 +197,15 @@ content_there f there v at long true DirectoryItem file is e = cc
 content_there f there v at long named (NoItem finding) file is e = cc
 
 -- an entry as it was: what it is, its key, and whether its long-name file is right
-pub record EntryStays (f : Format) (v w : View) (dir : Directory) (name : List ℕ) : Type 0 where
-  pub item : item_at f v dir (f.stored dir.key name) ≡ item_at f w dir (f.stored dir.key name)
-  pub key : key_of f (under (entry_at f dir name) v) ≡ key_of f (under (entry_at f dir name) w)
-  pub full : holds_full f v dir (f.stored dir.key name) ≡ holds_full f w dir (f.stored dir.key name)
+pub record EntryStays (f : Format) (v w : View) (dir : Directory) (s : Stored) : Type 0 where
+  pub item : item_at f v dir s ≡ item_at f w dir s
+  pub key : key_of f (under (child dir.folder s.name) v) ≡ key_of f (under (child dir.folder s.name) w)
+  pub full : holds_full f v dir s ≡ holds_full f w dir s
 
 -- an entry that is there and spared is as it was
 pub entry_stays : (f : Format) (lawful : IsLawful f) (v : View) (e : Edit) (path : plain.Path) (dir : Directory) (name : List ℕ)
     → HasFolders v → v e.at ≡ NoEntry → Leads f v path dir → v (entry_at f dir name) ≢ NoEntry → SparesEntry f lawful v e.at dir name
-    → EntryStays f v (edited v e) dir name
+    → EntryStays f v (edited v e) dir (f.stored dir.key name)
 entry_stays f lawful v e path dir name folders free leads there spared = record { item = items; key = keys; full = fulls }
   where
     entry_same : v (entry_at f dir name ++ []) ≡ edited v e (entry_at f dir name ++ [])
@@ -244,7 +241,7 @@ pub stands_on : (f : Format) (lawful : IsLawful f) (v : View) (e : Edit) (path :
     → IsSame v (edited v e) (standing_in f v dir name) (standing_in f (edited v e) dir name)
 stands_on f lawful v e path dir name folders entered free leads there spared = by_name (is_name name) refl
   where
-    as_was : EntryStays f v (edited v e) dir name
+    as_was : EntryStays f v (edited v e) dir (f.stored dir.key name)
     as_was = entry_stays f lawful v e path dir name folders free leads there spared
 
     stays : (q : Path) → v q ≢ NoEntry → edited v e q ≡ v q

@@ -21,7 +21,7 @@ use Rattle.vault_spec.proofs.Grafts.{reached_right, none_stands, is_entered}
 use Rattle.vault_spec.proofs.PathEnds.{child-both}
 use Rattle.vault_spec.proofs.Places.{SparesAll, IsSide, side_looks, led_on, led_back, brought, arrived, IsNew, Arrives, brings_item}
 use Rattle.vault_spec.proofs.Clean.{StandsAs, stands_as}
-use Rattle.vault_spec.proofs.StaysClean.{IsBare, IsSideFile, IsNewEntry, IsWhole, IsApart, KeepsClean}
+use Rattle.vault_spec.proofs.StaysClean.{IsBare, IsSideFile, IsNewEntry, IsWhole, IsApart, HasPlace, KeepsClean}
 
 -- where nothing stands, no directory that is entered has its folder
 pub free_is_apart : (f : Format) (v : View) (folder : Path) → v folder ≡ NoEntry → IsApart f v folder
@@ -36,15 +36,6 @@ apart_on f v w folder looks apart path dir name at d leads stands = elim (looks.
   | inl same ↦ apart path dir name at d (led_back f v w looks path dir leads) (same.stands ∙ stands)
   | inr none ↦ absurd (subst IsNoItem stands none.1)
 ]
-
--- What an edit brings outside of the folders of entries has its place, and so has what it brings beside an entry.
-pub record HasPlace (f : Format) (v : View) (e : Edit) : Type 0 where
-  pub inner : (path : plain.Path) (dir : Directory) (name : List ℕ) (x : Part) → Leads f v path dir → child (entry_at f dir name) x ≡ e.at
-      → (long : Bool) (item : Item) (there : Found) → f.inner_role long item x there ≢ Extra
-  pub role : (rest : Path) → f.role (e.at ++ rest) (edited v e (e.at ++ rest)) ≢ Extra
-  pub empty : (rest : Path) (x : Part) → f.role (e.at ++ rest) (edited v e (e.at ++ rest)) ≡ ContentFolder → edited v e (child (e.at ++ rest) x) ≡ NoEntry
-  pub alone : (rest : Path) → f.role (e.at ++ rest) (edited v e (e.at ++ rest)) ≡ ContentFolder → rest ≡ []
-  pub folder : (at : Path) (x : Part) → f.role at (v at) ≡ ContentFolder → child at x ≡ e.at → (path : plain.Path) × (dir : Directory) × Leads f v path dir × (dir.folder ≡ at)
 
 pub side_keeps : (f : Format) (lawful : IsLawful f) (v : View) (e : Edit) → IsOrderly f v → IsSide f lawful v e → HasPlace f v e
     → ((path : plain.Path) (dir : Directory) (x : Part) → Leads f v path dir → child dir.folder x ≡ e.at → IsSideFile f (edited v e) dir x) → KeepsClean f lawful v e
@@ -65,11 +56,7 @@ side_keeps f lawful v e orderly side has placed = record {
     | inl same ↦ inl (same.stands ∙ stands_now)
     | inr none ↦ absurd (subst IsNoItem stands_now none.1)
   ];
-  inner = has.inner;
-  role_new = has.role;
-  folder_new = has.empty;
-  folder_at = has.alone;
-  folder_old = has.folder;
+  has = has;
 }
   where
     looks : LooksAlike f v (edited v e)
@@ -99,11 +86,7 @@ item_keeps f lawful v front dir name e opened orderly new spares arrives has bri
   whole = whole;
   unlocked = unlocked;
   stands = stands_now;
-  inner = has.inner;
-  role_new = has.role;
-  folder_new = has.empty;
-  folder_at = has.alone;
-  folder_old = has.folder;
+  has = has;
 }
   where
     gains : GainsItem f v (edited v e) front name

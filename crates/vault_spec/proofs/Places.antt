@@ -6,6 +6,7 @@ use Rattle.std.proofs.lemmas.Slice.Eq.{bytes_eq-Decides}
 use Rattle.folder_spec.specs.Path.{Part, Path, child, below}
 use Rattle.folder_spec.specs.View.{Found, NoEntry, Folder, FileOf, Special, View}
 use Rattle.folder_spec.specs.Edit.{Edit, grafted, edited, file_view, folder_view}
+use Rattle.folder_spec.proofs.Edits.{off_edit}
 use Rattle.folder_spec.proofs.Paths.{one_or_not, begins_or_not, below-append, below-above, child_begins, child-injective, child-last}
 use Rattle.plain_tree.specs.Names as plain
 use Rattle.plain_tree.specs.Names.{is_name}
@@ -19,7 +20,7 @@ use Rattle.vault_spec.specs.Reached.{Leads}
 use Rattle.vault_spec.specs.Alike.{IsNoItem, AreAlike, LooksAlike, IsLeaf, GainsItem, HasFolders, IsOrderly}
 use Rattle.vault_spec.proofs.Lawful.{IsLawful, SparesConfiguration}
 use Rattle.vault_spec.proofs.Steps.{along, standing_alike, gained, gained_there}
-use Rattle.vault_spec.proofs.Grafts.{reached_right, nothing_below, edited_elsewhere, edited_adds, edited_entry, none_stands, standing_named, standing_unnamed, same_directory, SparesEntry, stands_on}
+use Rattle.vault_spec.proofs.Grafts.{reached_right, nothing_below, edited_adds, edited_entry, none_stands, standing_named, standing_unnamed, same_directory, SparesEntry, stands_on}
 
 pub none_or_there : (x : Found) → (x ≡ NoEntry) ⊎ (x ≢ NoEntry)
 none_or_there NoEntry = inl refl
@@ -180,15 +181,15 @@ edited_folders v e up a folders is there made = λ p b there_now. elim (begins_o
   | inl k ↦ elim (child_begins e.at p b k.0 k.1) [
     | inl same ↦
         let one : p ≡ up = child-injective p up b a (same ∙ is) in
-        edited_elsewhere v e p (ap (below e.at) one ∙ ap (λ q. below q up) is ∙ none_above up a) ∙ ap v one ∙ there
+        off_edit v e p (ap (below e.at) one ∙ ap (λ q. below q up) is ∙ none_above up a) ∙ ap v one ∙ there
     | inr above ↦
         let now : edited v e (child p b) ≡ e.made (child above.0 b) = ap (edited v e) (k.1 ∙ ap (λ r. e.at ++ r) above.2) ∙ ap (grafted v e (e.at ++ child above.0 b)) (below-append e.at (child above.0 b)) in
         let up_now : edited v e p ≡ e.made above.0 = ap (edited v e) above.1 ∙ ap (grafted v e (e.at ++ above.0)) (below-append e.at above.0) in
         up_now ∙ made above.0 b (λ none. there_now (now ∙ none))
   ]
   | inr none ↦
-      edited_elsewhere v e p (below-above e.at p b none)
-      ∙ folders p b (λ z. there_now (edited_elsewhere v e (child p b) none ∙ z))
+      off_edit v e p (below-above e.at p b none)
+      ∙ folders p b (λ z. there_now (off_edit v e (child p b) none ∙ z))
 ]
   where
     none_above : (up : Path) (a : Part) → below (child up a) up ≡ None

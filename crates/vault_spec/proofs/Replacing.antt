@@ -6,6 +6,7 @@ use Rattle.folder_spec.specs.Path.{Part, Path, child}
 use Rattle.folder_spec.specs.View.{Found, NoEntry, Folder, FileOf, Special, View, kind_found}
 use Rattle.folder_spec.specs.Seen.{under}
 use Rattle.folder_spec.specs.Edit.{edited, file_edit}
+use Rattle.folder_spec.proofs.Edits.{off_edit}
 use Rattle.folder_spec.proofs.Paths.{one_or_not, begins_or_not, base_or_child}
 use Rattle.plain_tree.specs.Names as plain
 use Rattle.plain_tree.specs.Names.{is_name}
@@ -20,7 +21,7 @@ use Rattle.vault_spec.specs.Adding.{ContentsAreReplacedAlone}
 use Rattle.vault_spec.specs.Anywhere.{OpensAnew, ContentsOpenAnew}
 use Rattle.vault_spec.proofs.Lawful.{IsLawful, SparesConfiguration}
 use Rattle.vault_spec.proofs.Steps.{along}
-use Rattle.vault_spec.proofs.Grafts.{IsRight, reached_right, nothing_below, edited_elsewhere, same_standing, content_there, standing_named, standing_unnamed}
+use Rattle.vault_spec.proofs.Grafts.{IsRight, reached_right, nothing_below, same_standing, content_there, standing_named, standing_unnamed}
 use Rattle.vault_spec.proofs.Places.{brought_there, brought}
 use Rattle.vault_spec.proofs.OwnPlaces.{own_places, StandsUnder, stands_under}
 
@@ -47,7 +48,7 @@ pub record IsReplaced (f : Format) (lawful : IsLawful f) (v : View) (at : Path) 
 -- the edit leaves all but the file, and the file one
 pub replaced_elsewhere : (f : Format) (lawful : IsLawful f) (v : View) (at : Path) (old bytes : List ℕ) → IsReplaced f lawful v at old → (q : Path) → q ≢ at → edited v (file_edit at bytes) q ≡ v q
 replaced_elsewhere f lawful v at old bytes r q apart = elim (begins_or_not at q) [
-  | inr none ↦ edited_elsewhere v (file_edit at bytes) q none
+  | inr none ↦ off_edit v (file_edit at bytes) q none
   | inl k ↦ by_rest k.0 k.1
 ]
   where

@@ -5,6 +5,7 @@ use Rattle.folder_spec.specs.Path.{Path, child}
 use Rattle.folder_spec.specs.View.{NoEntry, Folder, View}
 use Rattle.folder_spec.specs.Seen.{under}
 use Rattle.folder_spec.specs.Edit.{Edit, edited}
+use Rattle.folder_spec.proofs.Edits.{off_edit}
 use Rattle.folder_spec.proofs.Paths.{begins_or_not}
 use Rattle.plain_tree.specs.Names as plain
 use Rattle.plain_tree.specs.Names.{is_name}
@@ -18,7 +19,7 @@ use Rattle.vault_spec.specs.Reached.{Leads}
 use Rattle.vault_spec.specs.Alike.{IsNoItem, AreAlike, IsEmptyIn}
 use Rattle.vault_spec.proofs.Lawful.{IsLawful}
 use Rattle.vault_spec.proofs.Steps.{along, behind_no_item, opens_alike}
-use Rattle.vault_spec.proofs.Grafts.{reached_right, edited_elsewhere, edited_adds, edited_entry, none_stands, standing_named, standing_unnamed, EntryStays, entry_stays, IsEntered, is_entered, stands_on}
+use Rattle.vault_spec.proofs.Grafts.{reached_right, edited_adds, edited_entry, none_stands, standing_named, standing_unnamed, EntryStays, entry_stays, IsEntered, is_entered, stands_on}
 use Rattle.vault_spec.proofs.Clean.{StandsAs, stands_as}
 use Rattle.vault_spec.proofs.Places.{none_or_there, brought, root_stays, IsSide}
 
@@ -95,7 +96,7 @@ folder_empty f lawful v e side at key lack dir locked now name =
     none_stands f lawful (edited v e) dir name (elim (none_or_there (v dir.folder)) [
       | inr there ↦ absurd (was_not (sym (edited_adds v e side.rooted.folders side.free dir.folder there) ∙ entered.there))
       | inl none ↦ elim (begins_or_not e.at dir.folder) [
-        | inr apart ↦ let clash : Folder ≡ NoEntry = sym entered.there ∙ edited_elsewhere v e dir.folder apart ∙ none in cc
+        | inr apart ↦ let clash : Folder ≡ NoEntry = sym entered.there ∙ off_edit v e dir.folder apart ∙ none in cc
         | inl k ↦ ap (λ p. edited v e (child p (f.stored dir.key name).name)) k.1
             ∙ ap (edited v e) (append_assoc e.at k.0 ((f.stored dir.key name).name ∷ [])) ∙ brought v e (child k.0 (f.stored dir.key name).name) ∙ side.alone k.0 (f.stored dir.key name).name
       ]
@@ -115,7 +116,7 @@ side_step f lawful v e side path dir name leads = by_name (is_name name) refl
         → IsStillADirectory f (edited v e) (standing_in f v dir name) (standing_in f (edited v e) dir name)
     still named there at lack locked =
         let how : StandsAs f v dir name at (Err lack) = stands_as f v dir name at (Err lack) locked in
-        let as_was : EntryStays f v (edited v e) dir name = entry_stays f lawful v e path dir name side.rooted.folders side.free leads there (side.spares.entries path dir name leads named there) in
+        let as_was : EntryStays f v (edited v e) dir (f.stored dir.key name) = entry_stays f lawful v e path dir name side.rooted.folders side.free leads there (side.spares.entries path dir name leads named there) in
         record {
           at = entry_at f dir name;
           lack = lack;

@@ -4,6 +4,7 @@ use Rattle.folder_spec.specs.Path.{Part, Path, child}
 use Rattle.folder_spec.specs.View.{Found, NoEntry, Folder, FileOf, View}
 use Rattle.folder_spec.specs.Seen.{under}
 use Rattle.folder_spec.specs.Edit.{Edit, edited}
+use Rattle.folder_spec.proofs.Edits.{off_edit}
 use Rattle.folder_spec.proofs.Paths.{begins_or_not, child_begins}
 use Rattle.plain_tree.specs.Names as plain
 use Rattle.plain_tree.specs.Names.{is_name}
@@ -19,7 +20,7 @@ use Rattle.vault_spec.specs.Findings as findings
 use Rattle.vault_spec.specs.Alike.{IsNoItem, IsOrderly}
 use Rattle.vault_spec.specs.Adding.{StaysClean, NewItemsStayClean}
 use Rattle.vault_spec.proofs.Lawful.{IsLawful}
-use Rattle.vault_spec.proofs.Grafts.{reached_right, nothing_below, edited_elsewhere, edited_adds, none_stands, EntryStays, entry_stays, IsEntered, is_entered}
+use Rattle.vault_spec.proofs.Grafts.{reached_right, nothing_below, edited_adds, none_stands, EntryStays, entry_stays, IsEntered, is_entered}
 use Rattle.vault_spec.proofs.Places.{SparesAll, none_or_there}
 use Rattle.vault_spec.proofs.Clean.{StandsAs, stands_as}
 
@@ -47,6 +48,15 @@ pub record IsWhole (f : Format) (w : View) (dir : Directory) (name : List ℕ) :
 abbrev pub IsApart : Format → View → Path → Type 0
 IsApart f v folder = (path : plain.Path) (dir : Directory) (name : List ℕ) (at : Path) (d : Directory) → Leads f v path dir → standing_in f v dir name ≡ Dir at (Ok d) → folder ≢ d.folder
 
+-- What an edit brings outside of the folders of entries has its place, and so has what it brings beside an entry.
+pub record HasPlace (f : Format) (v : View) (e : Edit) : Type 0 where
+  pub inner : (path : plain.Path) (dir : Directory) (name : List ℕ) (x : Part) → Leads f v path dir → child (entry_at f dir name) x ≡ e.at
+      → (long : Bool) (item : Item) (there : Found) → f.inner_role long item x there ≢ Extra
+  pub role : (rest : Path) → f.role (e.at ++ rest) (edited v e (e.at ++ rest)) ≢ Extra
+  pub empty : (rest : Path) (x : Part) → f.role (e.at ++ rest) (edited v e (e.at ++ rest)) ≡ ContentFolder → edited v e (child (e.at ++ rest) x) ≡ NoEntry
+  pub alone : (rest : Path) → f.role (e.at ++ rest) (edited v e (e.at ++ rest)) ≡ ContentFolder → rest ≡ []
+  pub folder : (at : Path) (x : Part) → f.role at (v at) ≡ ContentFolder → child at x ≡ e.at → (path : plain.Path) × (dir : Directory) × Leads f v path dir × (dir.folder ≡ at)
+
 -- What has to be known of an edit at a free place of an orderly vault.
 pub record KeepsClean (f : Format) (lawful : IsLawful f) (v : View) (e : Edit) : Type 0 where
   pub orderly : IsOrderly f v
@@ -61,18 +71,13 @@ pub record KeepsClean (f : Format) (lawful : IsLawful f) (v : View) (e : Edit) :
   pub unlocked : (path : plain.Path) (dir : Directory) (name : List ℕ) (at : Path) (lack : Lack) → Leads f v path dir → standing_in f (edited v e) dir name ≢ Dir at (Err lack)
   pub stands : (path : plain.Path) (dir : Directory) (name : List ℕ) (at : Path) (d : Directory) → Leads f v path dir → standing_in f (edited v e) dir name ≡ Dir at (Ok d)
       → (standing_in f v dir name ≡ Dir at (Ok d)) ⊎ ((at ≡ e.at) × IsApart f v d.folder)
-  pub inner : (path : plain.Path) (dir : Directory) (name : List ℕ) (x : Part) → Leads f v path dir → child (entry_at f dir name) x ≡ e.at
-      → (long : Bool) (item : Item) (there : Found) → f.inner_role long item x there ≢ Extra
-  pub role_new : (rest : Path) → f.role (e.at ++ rest) (edited v e (e.at ++ rest)) ≢ Extra
-  pub folder_new : (rest : Path) (x : Part) → f.role (e.at ++ rest) (edited v e (e.at ++ rest)) ≡ ContentFolder → edited v e (child (e.at ++ rest) x) ≡ NoEntry
-  pub folder_at : (rest : Path) → f.role (e.at ++ rest) (edited v e (e.at ++ rest)) ≡ ContentFolder → rest ≡ []
-  pub folder_old : (at : Path) (x : Part) → f.role at (v at) ≡ ContentFolder → child at x ≡ e.at → (path : plain.Path) × (dir : Directory) × Leads f v path dir × (dir.folder ≡ at)
+  pub has : HasPlace f v e
 
 -- what is there was there, or is at the place or below it
 pub was : (v : View) (e : Edit) (q : Path) → edited v e q ≢ NoEntry → (v q ≢ NoEntry) ⊎ ((rest : Path) × (q ≡ e.at ++ rest))
 was v e q there = elim (begins_or_not e.at q) [
   | inl k ↦ inr k
-  | inr none ↦ inl (λ z. there (edited_elsewhere v e q none ∙ z))
+  | inr none ↦ inl (λ z. there (off_edit v e q none ∙ z))
 ]
 
 -- below what is there, what is there was there or is at the place
@@ -146,6 +151,12 @@ unnamed_back f lawful v e keeps finding at u = elim (keeps.back u.reached.0 u.di
 pub nothing_at : (f : Format) → IsLawful f → (w : View) (dir : Directory) (name : List ℕ) → w (entry_at f dir name) ≡ NoEntry → item_at f w dir (f.stored dir.key name) ≡ Nothing
 nothing_at f lawful w dir name none = lawful.none (is_some (f.stored dir.key name).full) (under (entry_at f dir name) w) (ap w (append-nil (entry_at f dir name)) ∙ none)
 
+-- an entry that was there is as it was
+entry_was : (f : Format) (lawful : IsLawful f) (v : View) (e : Edit) → KeepsClean f lawful v e → (path : plain.Path) (dir : Directory) (name : List ℕ) → Leads f v path dir → IsTrue (is_name name)
+    → v (entry_at f dir name) ≢ NoEntry → EntryStays f v (edited v e) dir (f.stored dir.key name)
+entry_was f lawful v e keeps path dir name leads named old =
+    entry_stays f lawful v e path dir name keeps.orderly.folders keeps.free leads old (keeps.spares.entries path dir name leads named old)
+
 -- what was no item was none
 no_item_back : (f : Format) (lawful : IsLawful f) (v : View) (e : Edit) → KeepsClean f lawful v e → (finding : Finding) (at : Path) → findings.IsNoItem f (edited v e) finding at → findings.IsNoItem f v finding at
 no_item_back f lawful v e keeps finding at u = elim (none_or_there (edited v e (entry_at f u.dir u.name))) [
@@ -154,8 +165,7 @@ no_item_back f lawful v e keeps finding at u = elim (none_or_there (edited v e (
     | inr bare ↦ absurd (there (bare.entries u.name u.of.named))
     | inl leads ↦ elim (was_below f lawful v e keeps u.dir.folder (f.stored u.dir.key u.name).name (folder_stands f lawful v u.reached.0 u.dir leads) there) [
       | inl old ↦
-          let as_was : EntryStays f v (edited v e) u.dir u.name
-          = entry_stays f lawful v e u.reached.0 u.dir u.name keeps.orderly.folders keeps.free leads old (keeps.spares.entries u.reached.0 u.dir u.name leads u.of.named old) in
+          let as_was : EntryStays f v (edited v e) u.dir (f.stored u.dir.key u.name) = entry_was f lawful v e keeps u.reached.0 u.dir u.name leads u.of.named old in
           record {
             dir = u.dir;
             name = u.name;
@@ -275,7 +285,7 @@ orphan_folder_back f lawful v e keeps at u = elim (none_or_there (edited v e at)
   | inl none ↦ let clash : Expected ≡ ContentFolder = sym (lawful.no_role at) ∙ ap (f.role at) (sym none) ∙ u.loose.folder in cc
   | inr there ↦ elim (was v e at there) [
     | inr new ↦ absurd (u.there (ap (λ p. edited v e (child p u.entry)) new.1
-        ∙ keeps.folder_new new.0 u.entry (ap (λ p. f.role p (edited v e p)) (sym new.1) ∙ u.loose.folder)))
+        ∙ keeps.has.empty new.0 u.entry (ap (λ p. f.role p (edited v e p)) (sym new.1) ∙ u.loose.folder)))
     | inl old ↦ elim (was_below f lawful v e keeps at u.entry old u.there) [
       | inl entry_old ↦ record {
         loose = record {
@@ -288,7 +298,7 @@ orphan_folder_back f lawful v e keeps at u = elim (none_or_there (edited v e at)
       }
       | inr here ↦
           let its : (path : plain.Path) × (dir : Directory) × Leads f v path dir × (dir.folder ≡ at)
-          = keeps.folder_old at u.entry (ap (f.role at) (sym (stays f lawful v e keeps at old)) ∙ u.loose.folder) here in
+          = keeps.has.folder at u.entry (ap (f.role at) (sym (stays f lawful v e keeps at old)) ∙ u.loose.folder) here in
           absurd (u.loose.loose its.1 (its.0, keeps.on its.0 its.1 its.2) its.3)
     ]
   ]
@@ -315,11 +325,10 @@ inside_back f lawful v e keeps at u = elim (none_or_there (edited v e (entry_at 
         let clash : Expected ≡ Extra = sym (lawful.no_inner_role (is_some (f.stored u.dir.key u.name).full) (item_at f (edited v e) u.dir (f.stored u.dir.key u.name)) u.entry)
         ∙ ap (f.inner_role (is_some (f.stored u.dir.key u.name).full) (item_at f (edited v e) u.dir (f.stored u.dir.key u.name)) u.entry) (sym none) ∙ u.extra in cc
     by_there leads entry_old (inr there) = elim (was_below f lawful v e keeps (entry_at f u.dir u.name) u.entry entry_old (λ none. there (ap (edited v e) u.place ∙ none))) [
-      | inr here ↦ absurd (keeps.inner u.reached.0 u.dir u.name u.entry leads here (is_some (f.stored u.dir.key u.name).full)
+      | inr here ↦ absurd (keeps.has.inner u.reached.0 u.dir u.name u.entry leads here (is_some (f.stored u.dir.key u.name).full)
           (item_at f (edited v e) u.dir (f.stored u.dir.key u.name)) (edited v e at) u.extra)
       | inl old ↦
-          let as_was : EntryStays f v (edited v e) u.dir u.name
-          = entry_stays f lawful v e u.reached.0 u.dir u.name keeps.orderly.folders keeps.free leads entry_old (keeps.spares.entries u.reached.0 u.dir u.name leads u.of.named entry_old) in
+          let as_was : EntryStays f v (edited v e) u.dir (f.stored u.dir.key u.name) = entry_was f lawful v e keeps u.reached.0 u.dir u.name leads u.of.named entry_old in
           record {
             dir = u.dir;
             name = u.name;
@@ -339,7 +348,7 @@ extra_back f lawful v e keeps at (inr role) = elim (none_or_there (edited v e at
   | inl none ↦ let clash : Expected ≡ Extra = sym (lawful.no_role at) ∙ ap (f.role at) (sym none) ∙ role in cc
   | inr there ↦ elim (was v e at there) [
     | inl old ↦ inr (ap (f.role at) (sym (stays f lawful v e keeps at old)) ∙ role)
-    | inr new ↦ absurd (keeps.role_new new.0 (ap (λ p. f.role p (edited v e p)) (sym new.1) ∙ role))
+    | inr new ↦ absurd (keeps.has.role new.0 (ap (λ p. f.role p (edited v e p)) (sym new.1) ∙ role))
   ]
 ]
 

@@ -75,7 +75,7 @@ idle_folder_back : (f : Format) (lawful : IsLawful f) (v : View) (e : Edit) → 
 idle_folder_back f lawful v e keeps at u = elim (none_or_there (edited v e at)) [
   | inl none ↦ let clash : Expected ≡ ContentFolder = sym (lawful.no_role at) ∙ ap (f.role at) (sym none) ∙ u.loose.folder in cc
   | inr there ↦ elim (was v e at there) [
-    | inr new ↦ inr (new.1 ∙ ap (λ r. e.at ++ r) (keeps.folder_at new.0 (ap (λ p. f.role p (edited v e p)) (sym new.1) ∙ u.loose.folder)) ∙ append-nil e.at)
+    | inr new ↦ inr (new.1 ∙ ap (λ r. e.at ++ r) (keeps.has.alone new.0 (ap (λ p. f.role p (edited v e p)) (sym new.1) ∙ u.loose.folder)) ∙ append-nil e.at)
     | inl old ↦ inl (record {
       loose = record {
         folder = ap (f.role at) (sym (stays f lawful v e keeps at old)) ∙ u.loose.folder;
@@ -96,22 +96,13 @@ abbrev pub IsAt : List Edit → Path → Type 0
 IsAt [] at = ⊥
 IsAt (e ∷ edits) at = (at ≡ e.at) ⊎ IsAt edits at
 
--- so it is over all edits
-names_back : (f : Format) (lawful : IsLawful f) (v : View) (edits : List Edit) → KeepEach f lawful v edits → (at : Path) → IsIdleName f (view_after v edits) at → IsIdleName f v at ⊎ IsAt edits at
-names_back f lawful v [] keep at idle = inl idle
-names_back f lawful v (e ∷ edits) keep at idle = elim (names_back f lawful (edited v e) edits keep.1 at idle) [
+-- what each edit leaves or brings is left by all edits, or is brought by one
+all_back : (Idle : View → Path → Type 0) (f : Format) (lawful : IsLawful f) → ((v : View) (e : Edit) → KeepsClean f lawful v e → (at : Path) → Idle (edited v e) at → Idle v at ⊎ (at ≡ e.at))
+    → (v : View) (edits : List Edit) → KeepEach f lawful v edits → (at : Path) → Idle (view_after v edits) at → Idle v at ⊎ IsAt edits at
+all_back Idle f lawful back v [] keep at idle = inl idle
+all_back Idle f lawful back v (e ∷ edits) keep at idle = elim (all_back Idle f lawful back (edited v e) edits keep.1 at idle) [
   | inr later ↦ inr (inr later)
-  | inl idle_then ↦ elim (idle_name_back f lawful v e keep.0 at idle_then) [
-    | inl before ↦ inl before
-    | inr here ↦ inr (inl here)
-  ]
-]
-
-folders_back : (f : Format) (lawful : IsLawful f) (v : View) (edits : List Edit) → KeepEach f lawful v edits → (at : Path) → IsIdleFolder f (view_after v edits) at → IsIdleFolder f v at ⊎ IsAt edits at
-folders_back f lawful v [] keep at idle = inl idle
-folders_back f lawful v (e ∷ edits) keep at idle = elim (folders_back f lawful (edited v e) edits keep.1 at idle) [
-  | inr later ↦ inr (inr later)
-  | inl idle_then ↦ elim (idle_folder_back f lawful v e keep.0 at idle_then) [
+  | inl idle_then ↦ elim (back v e keep.0 at idle_then) [
     | inl before ↦ inl before
     | inr here ↦ inr (inl here)
   ]
@@ -120,8 +111,8 @@ folders_back f lawful v (e ∷ edits) keep at idle = elim (folders_back f lawful
 pub tidy_after : (f : Format) (lawful : IsLawful f) (v : View) (edits : List Edit) → KeepEach f lawful v edits → IsTidy f v
     → ((at : Path) → IsAt edits at → ¬ IsIdleName f (view_after v edits) at) → ((at : Path) → IsAt edits at → ¬ IsIdleFolder f (view_after v edits) at) → IsTidy f (view_after v edits)
 tidy_after f lawful v edits keep tidy no_name no_folder = record {
-  names = λ at idle. elim (names_back f lawful v edits keep at idle) [ inl before ↦ tidy.names at before | inr here ↦ no_name at here idle ];
-  folders = λ at idle. elim (folders_back f lawful v edits keep at idle) [ inl before ↦ tidy.folders at before | inr here ↦ no_folder at here idle ];
+  names = λ at idle. elim (all_back (IsIdleName f) f lawful (idle_name_back f lawful) v edits keep at idle) [ inl before ↦ tidy.names at before | inr here ↦ no_name at here idle ];
+  folders = λ at idle. elim (all_back (IsIdleFolder f) f lawful (idle_folder_back f lawful) v edits keep at idle) [ inl before ↦ tidy.folders at before | inr here ↦ no_folder at here idle ];
 }
 
 -- what the last edit brings is there

@@ -1,6 +1,7 @@
 -- What a vault is, what opens in it, and which findings it has.
 pub mod Format
 pub mod RootFiles
+pub mod StoredNames
 pub mod Gocryptfs
 pub mod Cryptomator
 pub mod Standing

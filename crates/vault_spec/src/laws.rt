@@ -7,6 +7,7 @@ ghost use Rattle.folder_spec.specs.Path as folder;
 ghost use Rattle.folder_spec.specs.Seen.{under};
 ghost use Rattle.folder_spec.specs.View.{View, Folder, NoEntry};
 ghost use Rattle.gocrypt_conf.specs.declared.conf.GoDraw.{GoDraw};
+ghost use Rattle.vault_values.specs.declared.keys.CmKeys.{CmKeys};
 ghost use Rattle.vault_values.specs.declared.keys.GoKeys.{GoKeys};
 ghost use Rattle.kdf_suite.specs.ScryptCost.{Cost};
 ghost use Rattle.plain_tree.specs.Names.{Path};
@@ -30,6 +31,7 @@ ghost use Rattle.vault_spec.specs.Plan.{Planned, IsPlan, paths_of, StandsBelow, 
 ghost use Rattle.vault_spec.specs.Reached.{Leads, IsReached, IsReachedIn, HaveOwnFolders};
 ghost use Rattle.vault_spec.specs.Standing.{Standing, File, Dir, standing, standing_in};
 ghost use Rattle.vault_spec.specs.Staying.{NewItemsStayVaults, ReplacedContentsStayVaults};
+ghost use Rattle.vault_spec.specs.StoredNames.{GoTexts, CmTexts};
 ghost use Rattle.vault_spec.specs.Tidy.{IsTidy, OwnPlacesAreFree, NewItemsStayTidy, ReplacedContentsStayTidy};
 ghost use Rattle.vault_spec.specs.Vault.{Vault, format_of};
 ghost use Rattle.vault_spec.specs.declared.Lack.{Lack};
@@ -39,6 +41,25 @@ use vault_names::laws::{
     cm_folders_are_plain, cm_long_names_are_plain, cm_text_has_one_name, cm_texts_are_plain,
     long_names_are_plain, text_has_one_name, texts_are_plain,
 };
+
+// The laws of stored names that those of gocryptfs's vaults rest on.
+fn go_stored_names()
+    ensures { GoTexts }
+{
+    text_has_one_name();
+    texts_are_plain();
+    long_names_are_plain();
+}
+
+// The same of Cryptomator's.
+fn cm_stored_names()
+    ensures { (keys : CmKeys) → CmTexts keys }
+{
+    cm_text_has_one_name();
+    cm_texts_are_plain();
+    cm_long_names_are_plain();
+    cm_folders_are_plain();
+}
 
 /// Where the same stands in each directory that is reached, all opens alike. Where one item more stands in one of them, that opens,
 /// and all else opens as before.
@@ -63,9 +84,7 @@ pub fn clean_vaults_of_gocryptfs_are_orderly()
     ensures orderly { (keys : GoKeys) (v : View) → v [] ≡ Folder → HasFolders v → IsClean (go_format keys) v → IsOrderly (go_format keys) v }
     ensures places { (keys : GoKeys) (v : View) → IsOrderly (go_format keys) v → HaveOwnPlaces (go_format keys) v }
 {
-    text_has_one_name();
-    texts_are_plain();
-    long_names_are_plain();
+    go_stored_names();
 }
 
 /// A clean Cryptomator vault is orderly, where no two ids have one content folder. In an orderly vault no two plain paths have their
@@ -76,9 +95,7 @@ pub fn clean_vaults_of_cryptomator_are_orderly()
     ensures places { (vault : CmVault) (v : View) → (f : Format) → f ≡ cm_format vault
         → IsOrderly f v → HaveOwnPlaces f v }
 {
-    cm_text_has_one_name();
-    cm_texts_are_plain();
-    cm_long_names_are_plain();
+    cm_stored_names();
 }
 
 /// The edits that make an item of gocryptfs where no place is taken leave what opens, until the last adds just that item. A content
@@ -87,9 +104,7 @@ pub fn new_items_of_gocryptfs_come_alone()
     ensures new { (keys : GoKeys) → NewItemsComeAlone (go_format keys) }
     ensures replaced { (keys : GoKeys) → ContentsAreReplacedAlone (go_format keys) }
 {
-    text_has_one_name();
-    texts_are_plain();
-    long_names_are_plain();
+    go_stored_names();
 }
 
 /// The edits that make an item of Cryptomator where no place is taken leave what opens, until the last adds just that item. A content
@@ -98,9 +113,7 @@ pub fn new_items_of_cryptomator_come_alone()
     ensures replaced { (vault : CmVault) → ContentsAreReplacedAlone (cm_format vault) }
     ensures new { (vault : CmVault) → NewItemsComeAlone (cm_format vault) }
 {
-    cm_text_has_one_name();
-    cm_texts_are_plain();
-    cm_long_names_are_plain();
+    cm_stored_names();
 }
 
 /// While an item of gocryptfs is made where no place is taken, a clean vault stays clean at each edit, and so it does where a content
@@ -109,9 +122,7 @@ pub fn new_items_of_gocryptfs_keep_vaults_clean()
     ensures new { (keys : GoKeys) → NewItemsStayClean (go_format keys) }
     ensures replaced { (keys : GoKeys) → ReplacedContentsStayClean (go_format keys) }
 {
-    text_has_one_name();
-    texts_are_plain();
-    long_names_are_plain();
+    go_stored_names();
 }
 
 /// While an item of Cryptomator is made where no place is taken, a clean vault stays clean at each edit, and so it does where a content
@@ -120,10 +131,7 @@ pub fn new_items_of_cryptomator_keep_vaults_clean()
     ensures replaced { (vault : CmVault) → ReplacedContentsStayClean (cm_format vault) }
     ensures new { (vault : CmVault) → NewItemsStayClean (cm_format vault) }
 {
-    cm_text_has_one_name();
-    cm_texts_are_plain();
-    cm_long_names_are_plain();
-    cm_folders_are_plain();
+    cm_stored_names();
 }
 
 /// While an item of gocryptfs is made where no place is taken, an orderly vault stays orderly at each edit, and each passphrase opens it
@@ -132,9 +140,7 @@ pub fn new_items_of_gocryptfs_keep_the_vault()
     ensures new { (keys : GoKeys) → NewItemsStayVaults (go_format keys) }
     ensures replaced { (keys : GoKeys) → ReplacedContentsStayVaults (go_format keys) }
 {
-    text_has_one_name();
-    texts_are_plain();
-    long_names_are_plain();
+    go_stored_names();
 }
 
 /// While an item of Cryptomator is made where no place is taken, an orderly vault stays orderly at each edit, and each passphrase opens
@@ -143,9 +149,7 @@ pub fn new_items_of_cryptomator_keep_the_vault()
     ensures replaced { (vault : CmVault) → ReplacedContentsStayVaults (cm_format vault) }
     ensures new { (vault : CmVault) → NewItemsStayVaults (cm_format vault) }
 {
-    cm_text_has_one_name();
-    cm_texts_are_plain();
-    cm_long_names_are_plain();
+    cm_stored_names();
 }
 
 /// In any gocryptfs vault, orderly or not, the edits that make an item where no place is taken leave what opens, until the item opens at
@@ -155,9 +159,7 @@ pub fn new_items_of_gocryptfs_open_in_any_vault()
     ensures new { (keys : GoKeys) → NewItemsComeAtLast (go_format keys) }
     ensures replaced { (keys : GoKeys) → ContentsOpenAnew (go_format keys) }
 {
-    text_has_one_name();
-    texts_are_plain();
-    long_names_are_plain();
+    go_stored_names();
 }
 
 /// In any Cryptomator vault, orderly or not, the edits that make an item where no place is taken leave what opens, until the item opens at
@@ -167,9 +169,7 @@ pub fn new_items_of_cryptomator_open_in_any_vault()
     ensures replaced { (vault : CmVault) → ContentsOpenAnew (cm_format vault) }
     ensures new { (vault : CmVault) → NewItemsComeAtLast (cm_format vault) }
 {
-    cm_text_has_one_name();
-    cm_texts_are_plain();
-    cm_long_names_are_plain();
+    cm_stored_names();
 }
 
 /// The contents of a Cryptomator vault refuse no zeros, whichever its ciphers are.
@@ -177,25 +177,20 @@ pub fn contents_of_cryptomator_refuse_no_zeros()
     ensures { (vault : CmVault) → (contents.format_of (cm_format vault).content).refuses_zeros ≡ false }
 {}
 
-/// A new gocryptfs vault is clean, and its root alone opens.
+/// A new gocryptfs vault is clean, its root is entered, and nothing opens below that.
 pub fn new_vaults_of_gocryptfs_are_empty()
     ensures { (keys : GoKeys) (pass : List ℕ) (cost : Cost) (drawn : GoDraw) (key : List ℕ) → directory_key key ≡ Some key
         → IsEmptyVault (go_format keys) (new_go_vault pass cost drawn key) }
 {
-    text_has_one_name();
-    texts_are_plain();
-    long_names_are_plain();
+    go_stored_names();
 }
 
-/// A new Cryptomator vault is clean under its drawn keys, and its root alone opens.
+/// A new Cryptomator vault is clean under its drawn keys, its root is entered, and nothing opens below that.
 pub fn new_vaults_of_cryptomator_are_empty()
     ensures { (vault : CmVault) (pass : List ℕ) (cost : Cost) (drawn : CmDraw) → vault.keys ≡ keys_of drawn
         → IsEmptyVault (cm_format vault) (new_cm_vault pass cost vault.combo drawn) }
 {
-    cm_text_has_one_name();
-    cm_texts_are_plain();
-    cm_long_names_are_plain();
-    cm_folders_are_plain();
+    cm_stored_names();
 }
 
 /// A new gocryptfs vault is tidy. Where no place is taken, a tidy one is tidy again once an item is made, and so it is where a content is
@@ -206,9 +201,7 @@ pub fn vaults_of_gocryptfs_stay_tidy()
     ensures new { (keys : GoKeys) → NewItemsStayTidy (go_format keys) }
     ensures replaced { (keys : GoKeys) → ReplacedContentsStayTidy (go_format keys) }
 {
-    text_has_one_name();
-    texts_are_plain();
-    long_names_are_plain();
+    go_stored_names();
 }
 
 /// A new Cryptomator vault is tidy under its drawn keys. Where no place is taken, a tidy one is tidy again once an item is made, and so it
@@ -219,29 +212,21 @@ pub fn vaults_of_cryptomator_stay_tidy()
     ensures replaced { (vault : CmVault) → ReplacedContentsStayTidy (cm_format vault) }
     ensures new { (vault : CmVault) → NewItemsStayTidy (cm_format vault) }
 {
-    cm_text_has_one_name();
-    cm_texts_are_plain();
-    cm_long_names_are_plain();
-    cm_folders_are_plain();
+    cm_stored_names();
 }
 
 /// In a clean and tidy gocryptfs vault no place of a new item is taken, unless another item shares it.
 pub fn places_of_gocryptfs_are_free_unless_shared()
     ensures { (keys : GoKeys) → OwnPlacesAreFree (go_format keys) }
 {
-    text_has_one_name();
-    texts_are_plain();
-    long_names_are_plain();
+    go_stored_names();
 }
 
 /// In a clean and tidy Cryptomator vault no place of a new item is taken, unless another item shares it.
 pub fn places_of_cryptomator_are_free_unless_shared()
     ensures { (vault : CmVault) → OwnPlacesAreFree (cm_format vault) }
 {
-    cm_text_has_one_name();
-    cm_texts_are_plain();
-    cm_long_names_are_plain();
-    cm_folders_are_plain();
+    cm_stored_names();
 }
 
 /// What is found at a path stands there, and an item that stands there is found. A path is entered exactly where it leads to a
@@ -280,9 +265,7 @@ pub fn strays_of_gocryptfs_go_alone()
     ensures strays { (keys : GoKeys) → StraysGoAlone (go_format keys) }
     ensures own { (keys : GoKeys) (v : View) → HaveOwnFolders (go_format keys) v }
 {
-    text_has_one_name();
-    texts_are_plain();
-    long_names_are_plain();
+    go_stored_names();
 }
 
 /// In a Cryptomator vault, clean or not, strays are there, none below another, and where some of them are gone with all below them, all
@@ -290,10 +273,7 @@ pub fn strays_of_gocryptfs_go_alone()
 pub fn strays_of_cryptomator_go_alone()
     ensures { (vault : CmVault) → StraysGoAlone (cm_format vault) }
 {
-    cm_text_has_one_name();
-    cm_texts_are_plain();
-    cm_long_names_are_plain();
-    cm_folders_are_plain();
+    cm_stored_names();
 }
 
 /// The paths of a vault's plan are the items of its tree.

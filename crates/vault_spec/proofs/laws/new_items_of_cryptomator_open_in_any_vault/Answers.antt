@@ -1,6 +1,5 @@
-use Rattle.vault_values.specs.declared.keys.CmKeys.{CmKeys}
 use Rattle.vault_spec.specs.Cryptomator.{cm_format}
-use Rattle.vault_spec.proofs.CmVault.{CmTexts, cm_lawful}
+use Rattle.vault_spec.proofs.CmVault.{cm_lawful}
 use Rattle.vault_spec.proofs.CmAdding.{cm_makes}
 use Rattle.vault_spec.proofs.MadeItems.{new_items_at_last}
 use Rattle.vault_spec.proofs.Replacing.{opens_anew}
@@ -8,17 +7,12 @@ use Rattle.vault_spec.proofs.laws.new_items_of_cryptomator_open_in_any_vault.Goa
 
 pub returns : goal.returns
 returns c =
-    let texts : (keys : CmKeys) → CmTexts keys = λ keys. record {
-      one = c.cm_text_has_one_name.ensures keys;
-      plain = c.cm_texts_are_plain.ensures.characters keys;
-      long_plain = c.cm_long_names_are_plain.ensures.characters;
-    } in
     record {
       new = λ vault.
           new_items_at_last (cm_format vault)
-          (cm_lawful vault (texts vault.keys))
-          (cm_makes vault (texts vault.keys));
+          (cm_lawful vault (c.cm_stored_names.ensures vault.keys))
+          (cm_makes vault (c.cm_stored_names.ensures vault.keys));
       replaced = λ vault.
           opens_anew (cm_format vault)
-          (cm_lawful vault (texts vault.keys));
+          (cm_lawful vault (c.cm_stored_names.ensures vault.keys));
     }

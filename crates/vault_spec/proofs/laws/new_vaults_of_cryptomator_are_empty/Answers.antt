@@ -5,23 +5,11 @@ use Rattle.vault_names.specs.Cryptomator.{cm_folder_of}
 use Rattle.vault_spec.specs.Cryptomator.{cm_format}
 use Rattle.vault_spec.specs.Empty.{IsEmptyVault}
 use Rattle.vault_spec.proofs.CmNew.{new_root, new_is_empty}
-use Rattle.vault_spec.proofs.CmKeeping.{CmFolders}
-use Rattle.vault_spec.proofs.CmVault.{CmTexts}
 use Rattle.vault_spec.proofs.laws.new_vaults_of_cryptomator_are_empty.Goals as goal
 
 pub returns : goal.returns
 returns c vault pass cost drawn same =
-    let texts : (keys : CmKeys) → CmTexts keys = λ keys. record {
-      one = c.cm_text_has_one_name.ensures keys;
-      plain = c.cm_texts_are_plain.ensures.characters keys;
-      long_plain = c.cm_long_names_are_plain.ensures.characters;
-    } in
-    let folders : (keys : CmKeys) → CmFolders keys = λ keys. record {
-      first = c.cm_folders_are_plain.ensures.first keys;
-      rest = c.cm_folders_are_plain.ensures.rest keys;
-      characters = c.cm_folders_are_plain.ensures.characters keys;
-    } in
     subst (λ (k : CmKeys). IsEmptyVault (cm_format vault)
     (new_root (master_text (made_master pass cost drawn) (version_mac drawn.mac version_bytes)) (vault_text vault.combo drawn) (cm_folder_of k []))) same
-    (new_is_empty vault (texts vault.keys) (folders vault.keys)
+    (new_is_empty vault (c.cm_stored_names.ensures vault.keys)
     (master_text (made_master pass cost drawn) (version_mac drawn.mac version_bytes)) (vault_text vault.combo drawn))

@@ -1,20 +1,23 @@
 -- That each entry of a clean vault is accounted for.
-use Rattle.std.proofs.Common.{◌≡◌, ◌≢◌, ◌⊎◌, ℕ, Bool, true, false, ◌&&◌, not, List, codes, refl, sym, inl, inr, if◌then◌else◌}
+use Rattle.std.proofs.Common.{◌≡◌, ◌≢◌, ◌⊎◌, ℕ, Bool, true, false, List, refl, sym, inl, inr, if◌then◌else◌}
 use Rattle.folder_spec.specs.Path.{Part, Path, child}
 use Rattle.folder_spec.specs.View.{Found, NoEntry, Folder, FileOf, Special, View}
+use Rattle.vault_names.specs.Cryptomator.{is_cm_long_name}
+use Rattle.vault_names.specs.Gocryptfs.{is_long_name}
 use Rattle.vault_spec.specs.Cryptomator.{lost_by}
 use Rattle.vault_spec.specs.Findings.{Belongs, IsClean, IsEntryOf, IsUnnamed}
 use Rattle.vault_spec.specs.Format.{Format, Directory}
-use Rattle.vault_spec.specs.Gocryptfs.{has_long_form, is_full_name}
 use Rattle.vault_spec.specs.Reached.{IsReached}
-use Rattle.vault_spec.specs.RootFiles.{has_ending}
 use Rattle.vault_spec.specs.Vault.{Vault, Gocryptfs, Cryptomator, format_of}
 use Rattle.vault_spec.specs.declared.Finding.{Finding}
 use Rattle.vault_spec.specs.declared.Finding.TheVariants as is
 
+abbrev pub IsOneOf : Finding → Finding → Finding → Finding → Type 0
+IsOneOf one two three finding = (finding ≡ one) ⊎ ((finding ≡ two) ⊎ (finding ≡ three))
+
 -- an entry of no name has one of these findings
 abbrev pub OfNoName : Finding → Type 0
-OfNoName finding = (finding ≡ is.BadStoredName) ⊎ ((finding ≡ is.LongNameLost) ⊎ (finding ≡ is.WrongKind))
+OfNoName finding = IsOneOf is.BadStoredName is.LongNameLost is.WrongKind finding
 
 go_kinds : (b : Bool) → OfNoName (if b then is.LongNameLost else is.BadStoredName)
 go_kinds true = inr (inl refl)
@@ -31,8 +34,8 @@ cm_kinds true there = cm_lost there
 cm_kinds false there = inl refl
 
 kinds : (vault : Vault) (entry : Part) (there : Found) → OfNoName ((format_of vault).unnamed entry there)
-kinds (Gocryptfs keys) entry there = go_kinds (has_long_form entry && not (is_full_name entry))
-kinds (Cryptomator cm) entry there = cm_kinds (has_ending (codes ".c9s") entry) there
+kinds (Gocryptfs keys) entry there = go_kinds (is_long_name entry)
+kinds (Cryptomator cm) entry there = cm_kinds (is_cm_long_name entry) there
 
 refuted : (f : Format) (v : View) (at : Path) (unnamed : Finding) → IsClean f v → ((finding : Finding) → finding ≡ unnamed → IsUnnamed f v finding at) → OfNoName unnamed → ⊥
 refuted f v at unnamed clean found (inl bad) = clean is.BadStoredName at refl (found is.BadStoredName (sym bad))

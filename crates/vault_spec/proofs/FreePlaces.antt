@@ -17,11 +17,11 @@ use Rattle.vault_spec.specs.Vault.{Vault, format_of}
 use Rattle.vault_spec.proofs.Lawful.{IsLawful}
 use Rattle.vault_spec.proofs.Grafts.{reached_right, standing_named}
 use Rattle.vault_spec.proofs.Places.{none_or_there}
-use Rattle.vault_spec.proofs.Accounted.{accounted}
+use Rattle.vault_spec.proofs.Accounted.{IsOneOf, accounted}
 
 -- an entry that is no item has one of these findings
 abbrev pub OfNoItem : Finding → Type 0
-OfNoItem finding = (finding ≡ is.SymlinkFound) ⊎ ((finding ≡ is.WrongKind) ⊎ (finding ≡ is.TwoKinds))
+OfNoItem finding = IsOneOf is.SymlinkFound is.WrongKind is.TwoKinds finding
 
 -- What a format says of what stands at entries.
 pub record KnowsEntries (f : Format) (lawful : IsLawful f) : Type 0 where

@@ -2,7 +2,7 @@
 --
 -- The root's id is the empty text. Another directory's id is the content of its `dir.c9r`, where that has 1 to 1,000 bytes; it
 -- is the key of its names. The folder of an id is `d`, two characters, and thirty characters of its base32 text. A long name's
--- entry is a folder that ends in `.c9s` and holds `name.c9s`. A short entry that is a file is a file, and a long one with
+-- entry is a folder that holds `name.c9s`. A short entry that is a file is a file, and a long one with
 -- `contents.c9r`. An entry with `dir.c9r` is a directory. A folder with `symlink.c9r` is a symlink, and one that holds two of
 -- these three files is no item and no symlink.
 use Rattle.std.specs.Prelude.{ℕ, Bool, true, false, ◌&&◌, ◌||◌, ◌==◌, List, [], ◌∷◌, ◌++◌, length, take, drop, codes, nat_le, if◌then◌else◌, Option, Some, None}
@@ -18,10 +18,10 @@ use Rattle.folder_spec.specs.Path.{Part, Path, child}
 use Rattle.folder_spec.specs.View.{Found, NoEntry, Folder, FileOf, Special, View}
 use Rattle.folder_spec.specs.Edit.{Edit, file_edit, folder_edit, directory_edit}
 use Rattle.vault_names.specs.Base32.{is_base32}
-use Rattle.vault_names.specs.Cryptomator.{cm_stored, cm_folder_of}
+use Rattle.vault_names.specs.Cryptomator.{cm_stored, cm_folder_of, is_cm_long_name}
 use Rattle.vault_names.specs.declared.entry.Stored.{Stored}
 use Rattle.vault_spec.specs.Format.{Format, Directory, Item, Nothing, FileItem, DirectoryItem, NoItem, Role, Expected, Shelf, ContentFolder, Extra, is_file, is_bytes, taken_at}
-use Rattle.vault_spec.specs.RootFiles.{has_ending, is_root_file}
+use Rattle.vault_spec.specs.RootFiles.{is_root_file}
 use Rattle.vault_spec.specs.declared.Finding.{Finding}
 use Rattle.vault_spec.specs.declared.Finding.TheVariants.{BadStoredName, LongNameLost, SymlinkFound, WrongKind, TwoKinds}
 
@@ -92,7 +92,7 @@ cm_item_of long v Folder = folder_item long (has_file v content_file) (has_file 
 abbrev pub cm_item : Bool → View → Item
 cm_item long v = cm_item_of long v (v [])
 
--- a long entry without its name has lost it, where it is a folder
+-- an entry of a long form that is stored under no name has lost it, where it is a folder
 abbrev pub lost_by : Found → Finding
 lost_by Folder = LongNameLost
 lost_by NoEntry = WrongKind
@@ -100,7 +100,7 @@ lost_by (FileOf bytes) = WrongKind
 lost_by Special = WrongKind
 
 abbrev pub cm_unnamed : Part → Found → Finding
-cm_unnamed name there = if has_ending (codes ".c9s") name then lost_by there else BadStoredName
+cm_unnamed name there = if is_cm_long_name name then lost_by there else BadStoredName
 
 -- an entry that is a file with one of these names belongs; one that is there otherwise doesn't
 abbrev pub file_role : Bool → Found → Role

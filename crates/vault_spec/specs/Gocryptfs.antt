@@ -13,7 +13,7 @@ use Rattle.folder_spec.specs.Path.{Part, Path, child}
 use Rattle.folder_spec.specs.View.{Found, NoEntry, Folder, FileOf, Special, View}
 use Rattle.folder_spec.specs.Edit.{Edit, file_edit, folder_edit}
 use Rattle.vault_values.specs.declared.keys.GoKeys.{GoKeys}
-use Rattle.vault_names.specs.Gocryptfs.{stored}
+use Rattle.vault_names.specs.Gocryptfs.{is_long_name, stored}
 use Rattle.vault_names.specs.declared.entry.Stored.{Stored}
 use Rattle.vault_spec.specs.Format.{Format, Directory, Item, Nothing, FileItem, DirectoryItem, NoItem, Expected, file_bytes, is_bytes, taken_at}
 use Rattle.vault_spec.specs.RootFiles.{has_ending, is_root_file}
@@ -38,23 +38,22 @@ go_item (FileOf bytes) = FileItem []
 go_item Folder = DirectoryItem
 go_item Special = NoItem SymlinkFound
 
-abbrev pub has_long_form : Part → Bool
-has_long_form name = starts_with nat_eq name (codes "gocryptfs.longname.")
-
 -- the long-name file of an entry
 abbrev pub full_name : Part → Part
 full_name name = name ++ codes ".name"
 
+-- a file of such a name is that of an entry, whichever form the entry's name has
 abbrev pub is_full_name : Part → Bool
-is_full_name name = has_long_form name && has_ending (codes ".name") name
+is_full_name name = starts_with nat_eq name (codes "gocryptfs.longname.") && has_ending (codes ".name") name
 
 -- at the root, the files of the vault
 abbrev pub is_fixed_name : Path → Part → Bool
 is_fixed_name [] name = bytes_eq name key_file || bytes_eq name (codes "gocryptfs.conf") || is_root_file name
 is_fixed_name (a ∷ folder) name = bytes_eq name key_file
 
+-- an entry that is stored under no name has lost it, where it has the form of a long one
 abbrev pub go_unnamed : Part → Found → Finding
-go_unnamed name there = if has_long_form name && not (is_full_name name) then LongNameLost else BadStoredName
+go_unnamed name there = if is_long_name name then LongNameLost else BadStoredName
 
 -- where anything but a file with the right text stands at a long name's file
 abbrev pub taken_unless : Path → Found → Option (List ℕ) → Option Path

@@ -26,12 +26,12 @@ pub record HasWritten (key : List ℕ) (at at' taken taken' : Option (List ℕ))
   pub chunks : List (List ℕ)
   pub streams : Streams key at at' taken taken' d chunks (concat chunks)
 
--- the last chunk that was given was written in part
 -- the front of a piece
 pub record AppendsPart (piece part : List ℕ) : Type 0 where
   pub count : ℕ
   pub is : part ≡ take count piece
 
+-- the last chunk that was given was written in part
 pub record HasFailed (key : List ℕ) (at at' taken taken' : Option (List ℕ)) (d : Decoding) : Type 0 where
   pub chunks : List (List ℕ)
   pub last : List ℕ

@@ -27,7 +27,7 @@ use writing_commands::{init, mkdir, put};
 /// 8 a configuration is refused, 9 the passphrase, 10 something isn't there, 11 it is of another kind, 12 it is damaged, 13 a name isn't
 /// allowed, 14 a vault isn't clean, 15 folders overlap, 16 a place isn't free, 17 a journal is there, 18 none of use is there, 19 the
 /// source of a migration has changed, 20 two trees differ, 21 zero random bytes, 22 a place is taken, 23 a limit is passed, 24 the source
-/// of a migration is retired.
+/// of a migration is retired, 25 two items of a migration's source come to one path in its target.
 pub fn run<F: Folder, R: Randoms, I: Source, O: Sink, E: Sink>(
     alloc: Global,
     words: &[String],

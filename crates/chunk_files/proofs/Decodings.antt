@@ -14,6 +14,7 @@ use Rattle.chunk_files.specs.Keys.{Keys, format_of, IsHeaderOf}
 use Rattle.chunk_files.specs.Reading.{Whole, Wanting, Faulty, ends}
 use Rattle.chunk_files.specs.Contents.{read_by, read_behind, read_from, read_on, read_chunk}
 use Rattle.chunk_files.specs.Decoding.{wanted, Decoding, GivesNext, LeavesAll, read_at}
+use Rattle.chunk_files.proofs.Tests.{both-true, some-bytes}
 use Rattle.chunk_files.proofs.Lawful.{IsLaidOut, laid_out}
 use Rattle.chunk_files.proofs.LayoutSizes.{sizes_fit}
 use Rattle.chunk_files.proofs.ChunkReadings.{read_from-nil, read_from-next, read_from-wanting}
@@ -53,9 +54,6 @@ module _ (keys : Keys) where
 
   -- ---- the header
 
-  some-bytes : (bytes : List ℕ) → 0 < length bytes → (length bytes == 0) ≡ false
-  some-bytes bytes more = elim (eqb_tells (length bytes) 0) [ inl none ↦ absurd (omega arith) | inr some ↦ some.0 ]
-
   -- a whole header that tells this or has this fault
   pub header-read : (told : Result Header ChunkFault) (held more : List ℕ) (goes_on : Bool) → (format_of keys).header_size ≤ length held
       → told ≡ (format_of keys).read_header (take (format_of keys).header_size held)
@@ -92,17 +90,15 @@ module _ (keys : Keys) where
 
   -- ---- the chunks
 
-  front-same : (n : ℕ) (held : List ℕ) (size : ℕ) → size ≡ min (length held) n → take n held ≡ take size held
-  front-same n held size is = elim (cases_lt (length held) n) [
-    | inl less ↦ take_all n held (omega arith) ∙ sym (take_all size held (omega arith))
-    | inr long ↦ ap (λ (m : ℕ). take m held) (omega arith)
+  -- a chunk and what stands behind it, where fewer bytes than a whole one may be held
+  cut-alike : (cut : ℕ → List ℕ → List ℕ) (n : ℕ) (held : List ℕ) (size : ℕ) → size ≡ min (length held) n → (length held ≤ n → cut n held ≡ cut (length held) held) → cut n held ≡ cut size held
+  cut-alike cut n held size is all = elim (cases_lt (length held) n) [
+    | inl less ↦ all (omega arith) ∙ ap (λ (m : ℕ). cut m held) (omega arith)
+    | inr long ↦ ap (λ (m : ℕ). cut m held) (omega arith)
   ]
 
-  behind-same : (n : ℕ) (held : List ℕ) (size : ℕ) → size ≡ min (length held) n → drop n held ≡ drop size held
-  behind-same n held size is = elim (cases_lt (length held) n) [
-    | inl less ↦ drop_all n held (omega arith) ∙ sym (drop_all size held (omega arith))
-    | inr long ↦ ap (λ (m : ℕ). drop m held) (omega arith)
-  ]
+  pub front-same : (n : ℕ) (held : List ℕ) (size : ℕ) → size ≡ min (length held) n → take n held ≡ take size held
+  front-same n held size is = cut-alike take n held size is (λ few. take_all n held few ∙ sym (take_all (length held) held (omega arith)))
 
   -- less than a chunk, of a file that goes on; and no byte, where the file has ended
   pub chunks-wanting : (told : Option Header) (header : Header) (number : ℕ) (held : List ℕ) → told ≡ Some header
@@ -135,7 +131,7 @@ module _ (keys : Keys) where
         let room : 0 < n = omega (arith, law.some_full) in
         let nothing = follow refl in
         let front : take n held ≡ take size held = front-same n held size is in
-        let behind : drop n held ≡ drop size held = behind-same n held size is in
+        let behind : drop n held ≡ drop size held = cut-alike drop n held size is (λ few. drop_all n held few ∙ sym (drop_all (length held) held (omega arith))) in
         rw (nothing.0, nothing.1, append-nil held, append-nil (drop size held))
         (read_from-next (format_of keys) header number held false room some (λ cut. cc)
         ∙ rw (front, behind, reads) refl)
@@ -149,11 +145,6 @@ module _ (keys : Keys) where
       rw is (chunk-read header number read held more ended goes_on size some whole place reads follow)
 
   -- ---- a step before the header
-
-  both-true : (a b : Bool) → (a && b) ≡ true → (a ≡ true) × (b ≡ true)
-  both-true true true all = (refl, refl)
-  both-true true false all = cc
-  both-true false b all = cc
 
   abbrev before : ℕ → ℕ → List ℕ → Bool → Decoding
   before number taken held ended = record { keys = keys; header = None; number = number; taken = taken; held = held; ended = ended }

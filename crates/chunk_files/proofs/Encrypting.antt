@@ -12,6 +12,7 @@ use Rattle.chunk_files.specs.Contents.{is_refused}
 use Rattle.chunk_files.specs.Encrypt.{sealed_chunks, header_and_chunks, has_no_bytes, encrypt_by, encrypt, AreAccepted, IsEncrypted}
 use Rattle.chunk_files.specs.Encoding.{Encoding, HasMade, GoesOn, IsFrontOf, MoreDrawnGiveMore, MadeIsAFront, begun}
 use Rattle.chunk_files.specs.FileOf.{AreStored, IsFileOf, EncryptedFilesAreFiles}
+use Rattle.chunk_files.proofs.Tests.{both-true, some-bytes}
 use Rattle.chunk_files.proofs.Lawful.{IsLaidOut, laid_out}
 use Rattle.chunk_files.proofs.PiecesOf.{pieces-nil, pieces-next, pieces-one, pieces-append, length-pieces, concat-pieces}
 
@@ -88,9 +89,6 @@ module _ (f : Format) where
         id = ap (is_refused f) (take-append-le h drawn nonce long) ∙ accepted.id;
         nonces = subst (All P) (sym joined) (All-append P (pieces n (drop h drawn)) (nonce ∷ []) accepted.nonces (All-one P nonce right));
       }
-
-  some-bytes : (content : List ℕ) → 0 < length content → has_no_bytes f content ≡ false
-  some-bytes content more = elim (eqb_tells (length content) 0) [ inl none ↦ absurd (omega arith) | inr some ↦ rw some.0 refl ]
 
   -- ---- more drawn bytes
 
@@ -220,7 +218,7 @@ module _ (e : Encoding) where
       ∙ sym (header_and_chunks-append fe drawn nonce chunks chunk many next.size)
       ∙ ap (header_and_chunks fe (drawn ++ nonce)) (sym joined) in
       let accepted : AreAccepted fe (drawn ++ nonce) = accepted-more fe e.number drawn nonce law.some_nonce made.drawn_so_far next.size made.accepted next.accepted in
-      let whole : has_no_bytes fe (content ++ chunk) ≡ false = some-bytes fe (content ++ chunk) (omega (arith, length-append content chunk)) in
+      let whole : has_no_bytes fe (content ++ chunk) ≡ false = rw (some-bytes (content ++ chunk) (omega (arith, length-append content chunk))) refl in
       let long : fe.header_draw ≤ length drawn = omega (arith, made.drawn_so_far) in
       let after : length (pieces fe.full_size (content ++ chunk)) ≡ e.number + 1 = ap length joined ∙ length-append chunks (chunk ∷ []) ∙ omega (arith, count) in
       let sum : length (drawn ++ nonce) ≡ fe.header_draw + fe.nonce_size * (e.number + 1) = omega (arith, length-append drawn nonce, made.drawn_so_far, next.size) in (
@@ -256,10 +254,10 @@ module _ (keys : Keys) where
     is = rw allowed refl;
   }
 
-  pub header-made : (drawn file : List ℕ) → length drawn ≡ fk.header_draw → is_refused fk drawn ≡ false → file ≡ fk.new_header drawn
-      → HasMade (begun keys (fk.new_told drawn)) drawn [] file
+  pub header-made : (empty : Bool) (drawn file : List ℕ) → length drawn ≡ fk.header_draw → is_refused fk drawn ≡ false → file ≡ fk.new_header drawn
+      → HasMade (begun keys empty (fk.new_told drawn)) drawn [] file
   unfolding header_and_chunks sealed_chunks
-  header-made drawn file size some is =
+  header-made empty drawn file size some is =
       let enough : nat_lt (length drawn) fk.header_draw ≡ false = le-ltb (length drawn) fk.header_draw (omega arith) in
       let all : take fk.header_draw drawn ≡ drawn = take_all fk.header_draw drawn (omega arith) in
       let rest : drop fk.header_draw drawn ≡ [] = drop_all fk.header_draw drawn (omega arith) in
@@ -275,9 +273,9 @@ module _ (keys : Keys) where
       }
 
   -- a file that has a header and no chunk is the file of no content
-  pub header-encrypted : (drawn file : List ℕ) → fk.empty_has_no_header ≡ false → HasMade (begun keys (fk.new_told drawn)) drawn [] file → IsEncrypted keys drawn [] file
+  pub header-encrypted : (empty : Bool) (drawn file : List ℕ) → fk.empty_has_no_header ≡ false → HasMade (begun keys empty (fk.new_told drawn)) drawn [] file → IsEncrypted keys drawn [] file
   unfolding encrypt_by
-  header-encrypted drawn file header made = record {
+  header-encrypted empty drawn file header made = record {
     enough = rw (header, pieces-nil fk.full_size [] refl) made.drawn_so_far;
     accepted = λ some. made.accepted;
     is = rw header made.is;
@@ -331,11 +329,6 @@ module _ (keys : Keys) where
         | inr long ↦ inl (omega (arith, length-take fk.full_size bytes))
         | inl less ↦ inr (omega (arith, length-take fk.full_size bytes), pieces-nil fk.full_size (drop fk.full_size bytes) (omega (arith, length-drop fk.full_size bytes)))
       ]
-
-  both-true : (a b : Bool) → (a && b) ≡ true → (a ≡ true) × (b ≡ true)
-  both-true true true all = (refl, refl)
-  both-true true false all = cc
-  both-true false b all = cc
 
   file-of : (none : Bool) (drawn content file : List ℕ) → has_no_bytes fk content ≡ none → IsEncrypted keys drawn content file → IsFileOf keys file content
   unfolding encrypt_by header_and_chunks

@@ -11,6 +11,7 @@ use Rattle.chunk_files.specs.Keys.{Keys, format_of, IsHeaderOf}
 use Rattle.chunk_files.specs.Reading.{Whole, Faulty, Reading, ends}
 use Rattle.chunk_files.specs.Contents.{read_chunk, read_from, read_on, read_behind, read_by, readable}
 use Rattle.chunk_files.specs.FileOf.{IsStored, IsFullOrLast, BeginsWithChunk, AreStored, HasChunks, IsFileOf, Gives, FilesAreWhatTheyGive}
+use Rattle.chunk_files.proofs.Tests.{both-true, some-bytes}
 use Rattle.chunk_files.proofs.Tagging.{SealLaws}
 use Rattle.chunk_files.proofs.Lawful.{IsLawful, lawful}
 use Rattle.chunk_files.proofs.ChunkReadings.{read_from-nil, read_from-next}
@@ -143,9 +144,6 @@ module _ (laws : SealLaws) (keys : Keys) (bytes content : List ℕ) where
           joined = has.joined ∙ ap (λ (r : Reading). concat r.chunks) (sym reading);
         }
   ]
-    where
-      some-bytes : (bs : List ℕ) → 0 < length bs → (length bs == 0) ≡ false
-      some-bytes bs more = elim (eqb_tells (length bs) 0) [ inl none ↦ absurd (omega arith) | inr some ↦ some.0 ]
 
   -- a file whose header tells this
   file-told : (told : Result Header ChunkFault) → fk.header_size ≤ length bytes → fk.read_header (take fk.header_size bytes) ≡ told
@@ -167,11 +165,6 @@ module _ (laws : SealLaws) (keys : Keys) (bytes content : List ℕ) where
         of = read.of whole;
         joined = joined;
       }
-
-  both-true : (a b : Bool) → (a && b) ≡ true → (a ≡ true) × (b ≡ true)
-  both-true true true all = (refl, refl)
-  both-true true false all = cc
-  both-true false b all = cc
 
   -- the file that a reading gives, by the tests that it meets
   file-by-tests : (empty short : Bool) → ((length bytes == 0) && fk.empty_has_no_header) ≡ empty → nat_lt (length bytes) fk.header_size ≡ short

@@ -1,3 +1,6 @@
+mod Tests
+mod KeptBehind
+mod FailedDraws
 mod PiecesOf
 mod Sealing
 mod Tagging

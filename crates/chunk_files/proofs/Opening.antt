@@ -1,5 +1,6 @@
 -- A stored text that was opened is the encrypted text, encrypted again; and where its tag is right.
 use Rattle.std.proofs.Common.{◌≡◌, ◌+◌, ◌-◌, Bool, true, false, List, ℕ, length, take, drop, sym, ap, ◌∙◌, arith, refl}
+use Rattle.std.proofs.lemmas.Bool.{false_from_ne_true}
 use Rattle.std.proofs.lemmas.List.{take_rest}
 use Rattle.std.proofs.lemmas.Slice.Eq.{bytes_eq-Decides}
 use Rattle.std.specs.Str.{bytes_eq}
@@ -11,10 +12,6 @@ use Rattle.chunk_files.specs.Sealed.{is_tag_right, plain_text, nonce_of, text_of
 pub record HasParts (n : ℕ) (stored text tag : List ℕ) : Type 0 where
   pub text_is : text ≡ take (length stored - 16 - n) (drop n stored)
   pub tag_is : tag ≡ take (length stored - (length stored - 16)) (drop (length stored - 16) stored)
-
-false_of : (b : Bool) → (b ≡ true → ⊥) → b ≡ false
-false_of true h = absurd (h refl)
-false_of false h = refl
 
 module _ (key associated : List ℕ) (n : ℕ) (stored text tag : List ℕ) (parts : HasParts n stored text tag) where
   text-is : text ≡ text_of n stored
@@ -38,7 +35,7 @@ module _ (key associated : List ℕ) (n : ℕ) (stored text tag : List ℕ) (par
       let equal : test ≡ true → ⊥ = λ same. wrong (tag-is
       ∙ (bytes_eq-Decides (tag_in stored) (tag_of (aes256 key) (nonce_of n stored) associated (text_of n stored))).0 same
       ∙ ap (tag_of (aes256 key) (nonce_of n stored) associated) (sym text-is)) in
-      false_of test equal
+      false_from_ne_true test equal
 
   pub plain-opened : (plain : List ℕ)
       → ((iv ad : List ℕ) (s : Sealed) (plain : List ℕ) → Opens (aes256 key) iv ad s plain → encrypted (aes256 key) iv s.text ≡ plain)

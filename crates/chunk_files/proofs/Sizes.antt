@@ -13,6 +13,7 @@ use Rattle.chunk_files.specs.Sizes.{IsFaultless, FilesAreNotMuchLonger, Readings
 use Rattle.chunk_files.proofs.ChunkReadings.{read_from-nil, read_from-next, read_from-wanting}
 use Rattle.chunk_files.proofs.Lawful.{IsLawful, lawful}
 use Rattle.chunk_files.proofs.LayoutSizes.{sizes_fit}
+use Rattle.chunk_files.proofs.Tests.{both-true}
 use Rattle.chunk_files.proofs.Tagging.{SealLaws}
 use Rattle.chunk_files.proofs.StoredChunks.{length-stored, stored-of-read}
 
@@ -52,11 +53,7 @@ module _ (f : Format) (IsHead : Header → List ℕ → Type 0) (law : IsLawful 
 
   by-tests : (empty short : Bool) → ((length bytes == 0) && f.empty_has_no_header) ≡ empty → nat_lt (length bytes) f.header_size ≡ short
       → IsShort (f.header_size + stored_size f) (length bytes) (cond empty (ends (at_end goes_on)) (cond short (ends (cond goes_on Wanting (Faulty NoHeader))) (read_behind f (f.read_header (take f.header_size bytes)) (drop f.header_size bytes) goes_on)))
-  by-tests true short none less = λ faultless. omega (arith, eqb-true (length bytes) 0 (first-true (length bytes == 0) f.empty_has_no_header none))
-    where
-      first-true : (a b : Bool) → (a && b) ≡ true → a ≡ true
-      first-true true b all = refl
-      first-true false b all = cc
+  by-tests true short none less = λ faultless. omega (arith, eqb-true (length bytes) 0 (both-true (length bytes == 0) f.empty_has_no_header none).0)
   by-tests false true none less = λ faultless. omega (arith, ltb-true (length bytes) f.header_size less)
   by-tests false false none long = behind-short (f.read_header (take f.header_size bytes)) (ltb-false (length bytes) f.header_size long)
 

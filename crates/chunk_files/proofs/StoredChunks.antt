@@ -10,6 +10,7 @@ use Rattle.chunk_files.specs.Zeros.{is_all_zero}
 use Rattle.chunk_files.specs.Format.{Format, Header, stored_size}
 use Rattle.chunk_files.specs.Contents.{is_hole, is_refused, opened_or_fault, read_chunk}
 use Rattle.chunk_files.specs.FileOf.{IsSealedChunk, IsHole, IsStored}
+use Rattle.chunk_files.proofs.Tests.{both-true}
 use Rattle.chunk_files.proofs.Lawful.{IsLawful}
 
 zeros-zero : (n : ℕ) → is_all_zero (replicate n 0) ≡ true
@@ -21,16 +22,6 @@ zero-zeros [] all = refl
 zero-zeros (x ∷ xs) all =
     let both = both-true (x == 0) (is_all_zero xs) all in
     rw (eqb-true x 0 both.0) (ap (λ (r : List ℕ). 0 ∷ r) (zero-zeros xs both.1))
-  where
-    both-true : (a b : Bool) → (a && b) ≡ true → (a ≡ true) × (b ≡ true)
-    both-true true true all = (refl, refl)
-    both-true true false all = cc
-    both-true false b all = cc
-
-both-true : (a b : Bool) → (a && b) ≡ true → (a ≡ true) × (b ≡ true)
-both-true true true all = (refl, refl)
-both-true true false all = cc
-both-true false b all = cc
 
 -- bytes with something other than zero at their front aren't all zero
 front-zero : (n : ℕ) (bytes : List ℕ) → is_all_zero (take n bytes) ≡ false → is_all_zero bytes ≡ false

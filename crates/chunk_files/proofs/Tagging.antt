@@ -1,5 +1,6 @@
 -- A text that is stored with a tag of 32 bytes is opened to itself, and what opens is the text stored so.
 use Rattle.std.proofs.Common.{◌≡◌, ℕ, ◌+◌, ◌-◌, ◌≤◌, Bool, true, false, cond, List, ◌++◌, length, take, drop, None, Some, refl, sym, ap, ◌∙◌, arith, length-append}
+use Rattle.std.proofs.lemmas.Bool.{false_from_ne_true}
 use Rattle.std.proofs.lemmas.List.{take_at, drop_at, append_assoc, length-take, take-append-drop, take-take}
 use Rattle.std.proofs.lemmas.Slice.Eq.{bytes_eq-Decides}
 use Rattle.std.specs.Prelude.{IsTrue, ◌↔◌}
@@ -102,10 +103,6 @@ module _ (law : HasTagSize) (key mac associated : List ℕ) where
 
 -- ---- a tag that is tested
 
-false_of : (b : Bool) → (b ≡ true → ⊥) → b ≡ false
-false_of true h = absurd (h refl)
-false_of false h = refl
-
 -- whether the tag is the one that was computed tells whether it is right
 pub tag-told : (told : Bool) (mac associated stored behind tag : List ℕ) → behind ≡ long_tag stored → tag ≡ hmac_sha256 mac (associated ++ before_tag stored)
     → IsTrue told ↔ (behind ≡ tag) → told ≡ is_long_tag_right mac associated stored
@@ -116,4 +113,4 @@ tag-told false mac associated stored behind tag place is same =
     let test : Bool = bytes_eq (long_tag stored) (hmac_sha256 mac (associated ++ before_tag stored)) in
     let equal : test ≡ true → ⊥ = λ right.
     (let yes : false ≡ true = same.1 (place ∙ (bytes_eq-Decides (long_tag stored) (hmac_sha256 mac (associated ++ before_tag stored))).0 right ∙ sym is) in cc) in
-    sym (false_of test equal)
+    sym (false_from_ne_true test equal)

@@ -7,7 +7,7 @@
 -- HMAC-SHA-256 under the MAC key of the header's nonce, the chunk's number, from 0, as eight bytes, big-endian, the chunk's nonce
 -- and the encrypted text. Sixteen bytes are drawn for the header's nonce, 32 for the content key, and then sixteen for the nonce of
 -- each chunk.
-use Rattle.std.specs.Prelude.{◌≡◌, ℕ, false, List, [], ◌++◌, length, take, drop, Result}
+use Rattle.std.specs.Prelude.{◌≡◌, ℕ, false, List, [], ◌∷◌, ◌++◌, length, take, drop, Result}
 use Rattle.std.specs.Int.{to_be_bytes, w64}
 use Rattle.chunk_files.specs.declared.fault.ChunkFault.{ChunkFault}
 use Rattle.chunk_files.specs.Format.{Format, Header}
@@ -41,6 +41,7 @@ cm_ctr_format key mac = record {
   sealed_chunk = λ header number nonce chunk. tagged_text header.key mac (ctr_chunk_data header number) nonce chunk;
   opened_chunk = λ header number stored. opened_tagged header.key mac (ctr_chunk_data header number) stored;
   header_draw = 48;
+  header_draws = 16 ∷ 32 ∷ [];
   new_header = λ drawn. tagged_text key mac [] (take 16 drawn) (new_plain (drop 16 drawn));
   new_told = λ drawn. cm_header (take 16 drawn) (new_plain (drop 16 drawn));
   refuses_zeros = false;

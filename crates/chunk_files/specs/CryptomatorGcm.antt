@@ -7,7 +7,7 @@
 -- key. The associated data are the chunk's number, from 0, as eight bytes, big-endian, and the header's
 -- nonce. Twelve bytes are drawn for the header's nonce, 32 for the content key, and then twelve for the
 -- nonce of each chunk.
-use Rattle.std.specs.Prelude.{◌≡◌, ℕ, false, List, [], ◌++◌, length, take, drop, replicate, Option, None, Some, Result, Ok, Err}
+use Rattle.std.specs.Prelude.{◌≡◌, ℕ, false, List, [], ◌∷◌, ◌++◌, length, take, drop, replicate, Option, None, Some, Result, Ok, Err}
 use Rattle.chunk_files.specs.declared.fault.ChunkFault.{ChunkFault}
 use Rattle.chunk_files.specs.declared.fault.ChunkFault.TheVariants.{HeaderTag}
 use Rattle.chunk_files.specs.Format.{Format, Header}
@@ -49,6 +49,7 @@ cm_gcm_format key = record {
   sealed_chunk = λ header number nonce chunk. sealed_text header.key (chunk_data header number) nonce chunk;
   opened_chunk = λ header number stored. opened_text header.key (chunk_data header number) 12 stored;
   header_draw = 44;
+  header_draws = 12 ∷ 32 ∷ [];
   new_header = λ drawn. sealed_text key [] (take 12 drawn) (new_plain (drop 12 drawn));
   new_told = λ drawn. cm_header (take 12 drawn) (new_plain (drop 12 drawn));
   refuses_zeros = false;

@@ -3,6 +3,7 @@ use Rattle.std.specs.Prelude.{◌≡◌, ℕ, ◌+◌, ◌*◌, ◌≤◌, Bool,
 use Rattle.chunk_files.specs.declared.fault.ChunkFault.{ChunkFault}
 use Rattle.chunk_files.specs.declared.step.Step.{Step}
 use Rattle.chunk_files.specs.declared.step.Step.TheVariants.{More, Chunk, End}
+use Rattle.chunk_files.specs.Buffers.{HasOnlyOf, KeepsBehind}
 use Rattle.chunk_files.specs.Format.{Header, stored_size}
 use Rattle.chunk_files.specs.Keys.{Keys, format_of}
 use Rattle.chunk_files.specs.Reading.{Whole, Wanting, Faulty, Reading, ends, chunk_before}
@@ -52,6 +53,23 @@ GivesNext d (Ok End) d' buffer = (d.ended ≡ true) × (left d [] false ≡ ends
 GivesNext d (Err fault) d' buffer =
     ((more : List ℕ) (goes_on : Bool) → MayFollow d more goes_on → left d more goes_on ≡ ends (Faulty fault)) × LeavesAll d d'
 
+-- the bytes that a decoder wants to hold before its next step: a whole header, or a whole chunk
+abbrev pub wanted : Keys → Option Header → ℕ
+wanted keys None = (format_of keys).header_size
+wanted keys (Some header) = stored_size (format_of keys)
+
+-- those that its next step reads, as far as they are held
+abbrev pub next_stored : Decoding → List ℕ
+next_stored d = take (wanted d.keys d.header) d.held
+
+-- what a step leaves in the buffer: behind a chunk nothing changed, at a fault it has only bytes that it had or that the step read, and
+-- else it is as it was
+abbrev pub LeavesBuffer : Decoding → Result Step ChunkFault → List ℕ → List ℕ → Type 0
+LeavesBuffer d (Ok (Chunk size)) old new = KeepsBehind size old new
+LeavesBuffer d (Ok More) old new = new ≡ old
+LeavesBuffer d (Ok End) old new = new ≡ old
+LeavesBuffer d (Err fault) old new = HasOnlyOf (next_stored d) old new
+
 -- how many chunks a step gave
 abbrev pub chunks_in : Result Step ChunkFault → ℕ
 chunks_in (Ok (Chunk size)) = 1
@@ -71,11 +89,6 @@ pub record HasGiven (keys : Keys) (fed : List ℕ) (chunks : List (List ℕ)) (d
 abbrev pub with_step : List (List ℕ) → Result Step ChunkFault → List ℕ → List (List ℕ)
 with_step chunks (Ok (Chunk size)) buffer = chunks ++ (take size buffer ∷ [])
 with_step chunks _ buffer = chunks
-
--- the bytes that a decoder wants to hold before its next step: a whole header, or a whole chunk
-abbrev pub wanted : Keys → Option Header → ℕ
-wanted keys None = (format_of keys).header_size
-wanted keys (Some header) = stored_size (format_of keys)
 
 -- the stored end of so many full chunks, and the file's start before the first
 abbrev pub stored_end : Keys → Option Header → ℕ → ℕ

@@ -1,5 +1,5 @@
 -- What an encoder has made of a content so far.
-use Rattle.std.specs.Prelude.{◌≡◌, ℕ, ◌+◌, ◌*◌, ◌&&◌, Bool, false, List, [], ◌++◌, length, take, Option}
+use Rattle.std.specs.Prelude.{◌≡◌, ℕ, ◌+◌, ◌*◌, ◌&&◌, not, Bool, false, List, [], ◌++◌, length, take, Option}
 use Rattle.port_model.specs.Draws.{ByteStream, Draws}
 use Rattle.chunk_files.specs.Format.{Header}
 use Rattle.chunk_files.specs.Keys.{Keys, format_of}
@@ -11,10 +11,16 @@ pub record Encoding : Type 0 where
   pub keys : Keys
   pub header : Header
   pub number : ℕ
+  -- whether a file was begun that may have chunks, which one that was begun as empty has not
+  pub is_open : Bool
 
--- an encoder that made no chunk yet
-abbrev pub begun : Keys → Header → Encoding
-begun keys header = record { keys = keys; header = header; number = 0 }
+-- an encoder of which no file was begun
+abbrev pub unbegun : Keys → Header → Encoding
+unbegun keys header = record { keys = keys; header = header; number = 0; is_open = false }
+
+-- an encoder of which a file was begun, as empty or not, and that made no chunk yet
+abbrev pub begun : Keys → Bool → Header → Encoding
+begun keys empty header = record { keys = keys; header = header; number = 0; is_open = not empty }
 
 -- one chunk later
 abbrev pub one_chunk_later : Encoding → Encoding

@@ -21,8 +21,10 @@ pub record Format : Type 0 where
   -- the chunk of this number sealed under a nonce; and the plain bytes of a sealed chunk whose tag is right
   pub sealed_chunk : Header → ℕ → List ℕ → List ℕ → List ℕ
   pub opened_chunk : Header → ℕ → List ℕ → Option (List ℕ)
-  -- how many bytes a new header draws, the header that they make, and what it tells
+  -- how many bytes a new header draws, and how many each of its draws, one after the other; the header that they make, and what it
+  -- tells
   pub header_draw : ℕ
+  pub header_draws : List ℕ
   pub new_header : List ℕ → List ℕ
   pub new_told : List ℕ → Header
   -- whether a nonce or id of zeros is refused

@@ -6,7 +6,7 @@
 -- tag of 16 bytes, by GCM under the content key. The associated data are the block's number, from 0, as
 -- eight bytes, big-endian, and the file id. A block of 4,128 zero bytes is a hole: it stands for 4,096
 -- zero bytes. Sixteen bytes are drawn for the file id, and then sixteen for the nonce of each block.
-use Rattle.std.specs.Prelude.{◌≡◌, ℕ, ◌==◌, not, true, false, List, ◌∷◌, length, take, drop, if◌then◌else◌, Result, Ok, Err}
+use Rattle.std.specs.Prelude.{◌≡◌, ℕ, ◌==◌, not, true, false, List, [], ◌∷◌, length, take, drop, if◌then◌else◌, Result, Ok, Err}
 use Rattle.std.specs.Int.{from_be_bytes, w16}
 use Rattle.chunk_files.specs.declared.fault.ChunkFault.{ChunkFault}
 use Rattle.chunk_files.specs.declared.fault.ChunkFault.TheVariants.{HeaderVersion, ZeroId}
@@ -54,6 +54,7 @@ go_format key = record {
   sealed_chunk = λ header number nonce chunk. sealed_text header.key (chunk_data header number) nonce chunk;
   opened_chunk = λ header number stored. opened_text header.key (chunk_data header number) 16 stored;
   header_draw = 16;
+  header_draws = 16 ∷ [];
   new_header = go_header_of;
   new_told = go_header key;
   refuses_zeros = true;

@@ -1,5 +1,6 @@
 -- The sizes of a layout, and how they fit together.
-use Rattle.std.specs.Prelude.{◌≡◌, ◌*◌, ◌<◌, ◌≤◌, true}
+use Rattle.std.specs.Prelude.{◌≡◌, ℕ, ◌*◌, ◌<◌, ◌≤◌, true, length, take}
+use Rattle.std.specs.List.{sum}
 use Rattle.chunk_files.specs.declared.keys.Layout.{Layout}
 use Rattle.chunk_files.specs.Format.{Format, stored_size}
 use Rattle.chunk_files.specs.Keys.{Keys, format_of, full_size}
@@ -14,6 +15,9 @@ pub record HasSizes (layout : Layout) (f : Format) : Type 0 where
   pub some_header : 0 < f.header_size
   pub few_header : f.header_size ≤ 88
   pub some_drawn : 0 < f.header_draw
+  -- its draws are so many bytes together, and fewer where not all are made
+  pub drawn_by_all : sum f.header_draws ≡ f.header_draw
+  pub drawn_by_some : (made : ℕ) → made < length f.header_draws → sum (take made f.header_draws) < f.header_draw
   -- a sealed chunk begins with its nonce, which has some bytes
   pub some_nonce : 0 < f.nonce_size
   pub nonce_within : f.nonce_size ≤ f.seal_size

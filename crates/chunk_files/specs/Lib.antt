@@ -16,6 +16,7 @@ pub mod FileOf
 pub mod Encoding
 pub mod DrawFaults
 pub mod Decoding
+pub mod Buffers
 pub mod Steps
 pub mod Lending
 pub mod Layouts

@@ -2,6 +2,7 @@
 
 ghost use Rattle.std.specs.Prelude.{◌≡◌, ◌≤◌, ◌<◌, ◌+◌, ◌++◌, ℕ, List, length, take};
 ghost use Rattle.std.specs.Int.{to_be_bytes, w64};
+ghost use Rattle.chunk_files.specs.Buffers.{KeepsBehind};
 ghost use Rattle.chunk_files.specs.Contents.{opened_or_fault, read_chunk};
 ghost use Rattle.chunk_files.specs.CryptomatorCtr.{cm_ctr_format};
 ghost use Rattle.chunk_files.specs.CryptomatorGcm.{cm_gcm_format};
@@ -36,7 +37,7 @@ pub fn open_chunk(
 ) -> Result<usize, ChunkFault>
     requires suits { layout_of told.now ≡ keys.now.layout }
     requires size { length stored.now ≤ stored_size (format_of keys.now) }
-    ensures { PutsChunk (read_chunk (format_of keys.now) (header_of told.now) number stored.now) result out.new }
+    ensures { PutsChunk stored.now (read_chunk (format_of keys.now) (header_of told.now) number stored.now) result out.old out.new }
 {
     match told {
         Told::Go(gcm, id) => open_go(gcm, id, number, stored, out),
@@ -54,7 +55,7 @@ fn open_go(
     out: &mut ChunkBuf,
 ) -> Result<usize, ChunkFault>
     requires { length stored.now ≤ GO_STORED }
-    ensures { (key : List ℕ) → PutsChunk (read_chunk (go_format key) (record { key = gcm.now; file = id.now }) number stored.now) result out.new }
+    ensures { (key : List ℕ) → PutsChunk stored.now (read_chunk (go_format key) (record { key = gcm.now; file = id.now }) number stored.now) result out.old out.new }
 {
     if stored.len() == GO_STORED && all_zero(stored) {
         out.put_front(&[0; GO_FULL]);
@@ -78,7 +79,7 @@ fn open_cm(
     out: &mut ChunkBuf,
 ) -> Result<usize, ChunkFault>
     requires { length stored.now ≤ 32796 }
-    ensures { (key : List ℕ) → PutsChunk (read_chunk (cm_gcm_format key) (record { key = gcm.now; file = nonce.now }) number stored.now) result out.new }
+    ensures { (key : List ℕ) → PutsChunk stored.now (read_chunk (cm_gcm_format key) (record { key = gcm.now; file = nonce.now }) number stored.now) result out.old out.new }
 {
     if stored.len() < 28 {
         return Err(ChunkFault::ShortChunk(number));
@@ -96,7 +97,7 @@ fn open_ctr(
     out: &mut ChunkBuf,
 ) -> Result<usize, ChunkFault>
     requires { length stored.now ≤ CHUNK_BUFFER_SIZE }
-    ensures { (enc : List ℕ) → PutsChunk (read_chunk (cm_ctr_format enc mac.now) (record { key = key.now; file = nonce.now }) number stored.now) result out.new }
+    ensures { (enc : List ℕ) → PutsChunk stored.now (read_chunk (cm_ctr_format enc mac.now) (record { key = key.now; file = nonce.now }) number stored.now) result out.old out.new }
 {
     if stored.len() < 48 {
         return Err(ChunkFault::ShortChunk(number));
@@ -121,7 +122,7 @@ fn open_sealed(
     requires nonce { n ≤ 16 }
     requires least { n + 16 ≤ length stored.now }
     requires most { length stored.now ≤ 32816 }
-    ensures { PutsChunk (opened_or_fault number (opened_text gcm.now (to_be_bytes w64 number ++ file.now) n stored.now)) result out.new }
+    ensures { PutsChunk stored.now (opened_or_fault number (opened_text gcm.now (to_be_bytes w64 number ++ file.now) n stored.now)) result out.old out.new }
 {
     let (data, size) = chunk_data(number, file);
     match out.open(gcm, &data[..size], n, stored) {
@@ -144,6 +145,7 @@ pub fn seal_chunk(
     requires chunk { length chunk.now ≤ 32768 }
     ensures size { result ≡ (format_of keys.now).seal_size + length chunk.now }
     ensures stored { take result out.new ≡ (format_of keys.now).sealed_chunk (header_of told.now) number nonce.now chunk.now }
+    ensures behind { KeepsBehind result out.old out.new }
     ensures buffer { length out.new ≡ 32816 }
 {
     match told {
@@ -176,6 +178,7 @@ fn seal_gcm(
     requires chunk { length chunk.now ≤ 32768 }
     ensures size { result ≡ length nonce.now + 16 + length chunk.now }
     ensures stored { take result out.new ≡ sealed_text gcm.now (to_be_bytes w64 number ++ file.now) nonce.now chunk.now }
+    ensures behind { KeepsBehind result out.old out.new }
     ensures buffer { length out.new ≡ 32816 }
 {
     let (data, size) = chunk_data(number, file);
@@ -196,6 +199,7 @@ fn seal_ctr(
     requires chunk { length chunk.now ≤ 32768 }
     ensures size { result ≡ 48 + length chunk.now }
     ensures stored { take result out.new ≡ tagged_text key.now mac.now (file.now ++ to_be_bytes w64 number) nonce.now chunk.now }
+    ensures behind { KeepsBehind result out.old out.new }
     ensures buffer { length out.new ≡ 32816 }
 {
     let mut first = [0; NONCE_SIZE];

@@ -1,4 +1,5 @@
 ghost use Rattle.std.specs.Prelude.{◌≡◌, ◌<◌, ◌≤◌, ◌+◌, ◌++◌, ℕ, List, length, take, replicate, IfOk};
+ghost use Rattle.chunk_files.specs.Buffers.{KeepsBehind};
 ghost use Rattle.chunk_files.specs.Sealed.{opened_text, sealed_text};
 ghost use Rattle.chunk_files.specs.Steps.{PutsText};
 ghost use Rattle.chunk_files.specs.Tagged.{opened_tagged, tagged_text};
@@ -66,6 +67,7 @@ impl ChunkBuf {
     pub fn put_front(&mut self, bytes: &[u8])
         requires { length bytes.now ≤ CHUNK_BUFFER_SIZE }
         ensures front { take (length bytes.now) self.new ≡ bytes.now }
+        ensures behind { KeepsBehind (length bytes.now) self.old self.new }
         ensures size { length self.new ≡ CHUNK_BUFFER_SIZE }
     {
         self.put_at(0, bytes);
@@ -75,6 +77,7 @@ impl ChunkBuf {
     pub fn put_at(&mut self, at: usize, bytes: &[u8])
         requires { at + length bytes.now ≤ CHUNK_BUFFER_SIZE }
         ensures front { take (at + length bytes.now) self.new ≡ take at self.old ++ bytes.now }
+        ensures behind { KeepsBehind (at + length bytes.now) self.old self.new }
         ensures size { length self.new ≡ CHUNK_BUFFER_SIZE }
     {
         copy_at(&mut self.bytes, at, bytes);
@@ -87,7 +90,7 @@ impl ChunkBuf {
         requires associated { length associated.now ≤ 24 }
         requires least { n + 16 ≤ length stored.now }
         requires most { length stored.now ≤ CHUNK_BUFFER_SIZE }
-        ensures { PutsText (opened_text gcm.now associated.now n stored.now) result self.new }
+        ensures { PutsText stored.now (opened_text gcm.now associated.now n stored.now) result self.old self.new }
     {
         open_front(&mut self.bytes, gcm, associated, n, stored)
     }
@@ -100,14 +103,10 @@ impl ChunkBuf {
         requires text { length text.now ≤ 32768 }
         ensures size { result ≡ length nonce.now + 16 + length text.now }
         ensures stored { take result self.new ≡ sealed_text gcm.now associated.now nonce.now text.now }
+        ensures behind { KeepsBehind result self.old self.new }
         ensures buffer { length self.new ≡ CHUNK_BUFFER_SIZE }
     {
-        let end = nonce.len() + text.len();
-        self.put_at(0, nonce);
-        self.put_at(nonce.len(), text);
-        let tag = seal_between(&mut self.bytes, gcm, associated, nonce, end);
-        self.put_at(end, &tag);
-        end + TAG_SIZE
+        seal_front(&mut self.bytes, gcm, associated, nonce, text)
     }
 
     // Opens the text that is stored with a tag of 32 bytes to the front, and answers its length.
@@ -120,7 +119,7 @@ impl ChunkBuf {
     ) -> Option<usize>
         requires least { 48 ≤ length stored.now }
         requires most { length stored.now ≤ CHUNK_BUFFER_SIZE }
-        ensures { PutsText (opened_tagged key.now mac.now associated.now stored.now) result self.new }
+        ensures { PutsText stored.now (opened_tagged key.now mac.now associated.now stored.now) result self.old self.new }
     {
         open_tagged_front(&mut self.bytes, key, mac, associated, stored)
     }
@@ -137,14 +136,10 @@ impl ChunkBuf {
         requires { length text.now ≤ 32768 }
         ensures size { result ≡ 48 + length text.now }
         ensures stored { take result self.new ≡ tagged_text key.now mac.now associated.now nonce.now text.now }
+        ensures behind { KeepsBehind result self.old self.new }
         ensures buffer { length self.new ≡ CHUNK_BUFFER_SIZE }
     {
-        let end = NONCE_SIZE + text.len();
-        self.put_at(0, nonce);
-        self.put_at(NONCE_SIZE, text);
-        let tag = tag_between(&mut self.bytes, key, mac, associated, nonce, end);
-        self.put_at(end, &tag);
-        end + LONG_TAG_SIZE
+        seal_tagged_front(&mut self.bytes, key, mac, associated, nonce, text)
     }
 }
 
@@ -162,7 +157,7 @@ fn open_front(
     requires associated { length associated.now ≤ 24 }
     requires least { n + 16 ≤ length stored.now }
     requires most { length stored.now ≤ CHUNK_BUFFER_SIZE }
-    ensures { PutsText (opened_text gcm.now associated.now n stored.now) result buffer.new }
+    ensures { PutsText stored.now (opened_text gcm.now associated.now n stored.now) result buffer.old buffer.new }
 {
     let size = stored.len() - n - TAG_SIZE;
     if open_text(gcm, associated, n, stored, &mut buffer[..size]) {
@@ -170,6 +165,31 @@ fn open_front(
     } else {
         None
     }
+}
+
+// Seals a text to the front of a buffer.
+fn seal_front(
+    buffer: &mut [u8; CHUNK_BUFFER_SIZE],
+    gcm: &Gcm,
+    associated: &[u8],
+    nonce: &[u8],
+    text: &[u8],
+) -> usize
+    requires some_nonce { 0 < length nonce.now }
+    requires nonce { length nonce.now ≤ 16 }
+    requires associated { length associated.now ≤ 24 }
+    requires text { length text.now ≤ 32768 }
+    ensures size { result ≡ length nonce.now + 16 + length text.now }
+    ensures stored { take result buffer.new ≡ sealed_text gcm.now associated.now nonce.now text.now }
+    ensures behind { KeepsBehind result buffer.old buffer.new }
+    ensures buffer { length buffer.new ≡ CHUNK_BUFFER_SIZE }
+{
+    let end = nonce.len() + text.len();
+    copy_at(buffer, 0, nonce);
+    copy_at(buffer, nonce.len(), text);
+    let tag = seal_between(buffer, gcm, associated, nonce, end);
+    copy_at(buffer, end, &tag);
+    end + TAG_SIZE
 }
 
 // Encrypts what stands in a buffer behind a nonce and before `end`, and answers its tag.
@@ -185,8 +205,10 @@ fn seal_between(
     requires associated { length associated.now ≤ 24 }
     requires end { length nonce.now ≤ end }
     requires within { end + 16 ≤ CHUNK_BUFFER_SIZE }
-    ensures { (text : List ℕ) → take end buffer.old ≡ nonce.now ++ text
+    ensures sealed { (text : List ℕ) → take end buffer.old ≡ nonce.now ++ text
         → take end buffer.new ++ result ≡ sealed_text gcm.now associated.now nonce.now text }
+    ensures tag { length result ≡ TAG_SIZE }
+    ensures behind { KeepsBehind end buffer.old buffer.new }
 {
     sealed_texts_are_bytes();
     gcm.seal(nonce, associated, &mut buffer[nonce.len()..end])
@@ -203,7 +225,7 @@ fn open_tagged_front(
 ) -> Option<usize>
     requires least { 48 ≤ length stored.now }
     requires most { length stored.now ≤ CHUNK_BUFFER_SIZE }
-    ensures { PutsText (opened_tagged key.now mac.now associated.now stored.now) result buffer.new }
+    ensures { PutsText stored.now (opened_tagged key.now mac.now associated.now stored.now) result buffer.old buffer.new }
 {
     if !is_long_tag_right(mac, associated, stored) {
         return None;
@@ -211,6 +233,29 @@ fn open_tagged_front(
     let size = stored.len() - NONCE_SIZE - LONG_TAG_SIZE;
     restore_text(key, stored, &mut buffer[..size]);
     Some(size)
+}
+
+// Stores a text with a tag of 32 bytes at the front of a buffer.
+fn seal_tagged_front(
+    buffer: &mut [u8; CHUNK_BUFFER_SIZE],
+    key: &Key256,
+    mac: &[u8; 32],
+    associated: &[u8],
+    nonce: &[u8; NONCE_SIZE],
+    text: &[u8],
+) -> usize
+    requires { length text.now ≤ 32768 }
+    ensures size { result ≡ 48 + length text.now }
+    ensures stored { take result buffer.new ≡ tagged_text key.now mac.now associated.now nonce.now text.now }
+    ensures behind { KeepsBehind result buffer.old buffer.new }
+    ensures buffer { length buffer.new ≡ CHUNK_BUFFER_SIZE }
+{
+    let end = NONCE_SIZE + text.len();
+    copy_at(buffer, 0, nonce);
+    copy_at(buffer, NONCE_SIZE, text);
+    let tag = tag_between(buffer, key, mac, associated, nonce, end);
+    copy_at(buffer, end, &tag);
+    end + LONG_TAG_SIZE
 }
 
 // Encrypts what stands in a buffer behind a nonce and before `end`, and answers the tag of both.
@@ -224,8 +269,10 @@ fn tag_between(
 ) -> [u8; LONG_TAG_SIZE]
     requires end { NONCE_SIZE ≤ end }
     requires within { end + LONG_TAG_SIZE ≤ CHUNK_BUFFER_SIZE }
-    ensures { (text : List ℕ) → take end buffer.old ≡ nonce.now ++ text
+    ensures sealed { (text : List ℕ) → take end buffer.old ≡ nonce.now ++ text
         → take end buffer.new ++ result ≡ tagged_text key.now mac.now associated.now nonce.now text }
+    ensures tag { length result ≡ LONG_TAG_SIZE }
+    ensures behind { KeepsBehind end buffer.old buffer.new }
 {
     ctr128_xor(key, nonce, &mut buffer[NONCE_SIZE..end]);
     long_tag_of(mac, associated, &buffer[..end])
@@ -242,6 +289,7 @@ fn all_of(buffer: &[u8; CHUNK_BUFFER_SIZE]) -> &[u8]
 fn copy_at(buffer: &mut [u8; CHUNK_BUFFER_SIZE], at: usize, bytes: &[u8])
     requires { at + length bytes.now ≤ CHUNK_BUFFER_SIZE }
     ensures front { take (at + length bytes.now) buffer.new ≡ take at buffer.old ++ bytes.now }
+    ensures behind { KeepsBehind (at + length bytes.now) buffer.old buffer.new }
     ensures size { length buffer.new ≡ CHUNK_BUFFER_SIZE }
 {
     buffer[at..at + bytes.len()].copy_from_slice(bytes);

@@ -1,5 +1,5 @@
 ghost use Rattle.std.specs.Prelude.{◌≡◌, ◌≤◌, ◌<◌, ◌+◌, ◌-◌, ◌^◌, ◌++◌, true, false, None, Some, IfOk, IfSome, IsSome, Ok, [], length, take, min, if◌then◌else◌};
-ghost use Rattle.chunk_files.specs.Decoding.{GivesNext, IsPlaced, LeavesAll, chunks_in, started, wanted};
+ghost use Rattle.chunk_files.specs.Decoding.{GivesNext, IsPlaced, LeavesAll, LeavesBuffer, chunks_in, started, wanted};
 
 use crate::chunk::open_chunk;
 use crate::chunk_buf::{CHUNK_BUFFER_SIZE, ChunkBuf};
@@ -119,6 +119,7 @@ impl Decoder {
         ensures placed { IsPlaced self.new }
         ensures wanting { result ≡ Ok Step.More → length self.new.held < wanted self.new.keys self.new.header }
         ensures room { result ≡ Ok Step.More → length self.new.held < 32816 }
+        ensures buffer { LeavesBuffer self.new result out.old out.new }
     {
         if self.is_told {
             return self.step_chunk(out);
@@ -169,6 +170,7 @@ impl Decoder {
         ensures number { self.new.number ≡ self.old.number + chunks_in result }
         ensures placed { IsPlaced self.new }
         ensures wanting { result ≡ Ok Step.More → length self.new.held < wanted self.new.keys self.new.header }
+        ensures buffer { LeavesBuffer self.new result out.old out.new }
     {
         let held = self.held.len();
         let stored = self.keys.layout().stored();

@@ -1,10 +1,11 @@
 //! Draws for headers and nonces.
 
-ghost use Rattle.std.specs.Prelude.{◌≡◌, ◌≤◌, ◌<◌, [], IfOk, IfErr, OnErr, false, length, take};
-ghost use Rattle.port_model.specs.Counts.{CountRose, IsCounted};
+ghost use Rattle.std.specs.Prelude.{◌≡◌, ◌≤◌, ◌<◌, ℕ, List, [], ◌∷◌, IfOk, IfErr, false, length, take};
+ghost use Rattle.port_model.specs.Counts.{IsCounted};
 ghost use Rattle.port_model.specs.Draws.{Draws};
 ghost use Rattle.chunk_files.specs.Contents.{is_refused};
 ghost use Rattle.chunk_files.specs.DrawFaults.{DrawFails};
+ghost use Rattle.chunk_files.specs.Format.{Format};
 ghost use Rattle.chunk_files.specs.Gocryptfs.{go_format};
 ghost use Rattle.chunk_files.specs.Keys.{format_of};
 ghost use Rattle.chunk_files.specs.Zeros.{is_all_zero};
@@ -18,9 +19,8 @@ use port_model::Randoms;
 pub fn draw<const N: usize, R: Randoms>(random: &mut R) -> Result<[u8; N], EncodeFault>
     ensures drawn { IfOk result (λ bytes. Draws (R.left random.old) (R.left random.new) bytes) }
     ensures size { IfOk result (λ bytes. length bytes ≡ N) }
-    ensures fault { IfErr result (λ fault. fault ≡ EncodeFault.Random) }
-    ensures cause { OnErr result (CountRose (R.faults random.old) (R.faults random.new)) }
-    ensures nothing { OnErr result (Draws (R.left random.old) (R.left random.new) []) }
+    ensures random { IfErr result (λ fault. fault ≡ EncodeFault.Random) }
+    ensures fault { (f : Format) (sizes : List ℕ) → IfErr result (DrawFails f (N ∷ sizes) (R.left random.old) (R.left random.new) (R.faults random.old) (R.faults random.new)) }
     ensures counted { IsCounted (R.faults random.old) (R.faults random.new) }
 {
     let mut bytes = [0; N];
@@ -44,7 +44,7 @@ pub fn draw_nonce<R: Randoms>(keys: &ContentKeys, random: &mut R) -> Result<Nonc
     ensures few { IfOk result (λ nonce. nonce.size ≤ 16) }
     ensures some { IfOk result (λ nonce. 0 < nonce.size) }
     ensures accepted { IfOk result (λ nonce. is_refused (format_of keys.now) (take nonce.size nonce.bytes) ≡ false) }
-    ensures fault { IfErr result (DrawFails (format_of keys.now) 1 (R.left random.old) (R.left random.new) (R.faults random.old) (R.faults random.new)) }
+    ensures fault { IfErr result (DrawFails (format_of keys.now) ((format_of keys.now).nonce_size ∷ []) (R.left random.old) (R.left random.new) (R.faults random.old) (R.faults random.new)) }
     ensures counted { IsCounted (R.faults random.old) (R.faults random.new) }
 {
     match keys.layout() {
@@ -80,7 +80,7 @@ pub fn draw_some<R: Randoms>(random: &mut R) -> Result<[u8; 16], EncodeFault>
     ensures drawn { IfOk result (λ bytes. Draws (R.left random.old) (R.left random.new) bytes) }
     ensures sixteen { IfOk result (λ bytes. length bytes ≡ 16) }
     ensures some_bit { IfOk result (λ bytes. is_all_zero bytes ≡ false) }
-    ensures fault { IfErr result (DrawFails (go_format []) 1 (R.left random.old) (R.left random.new) (R.faults random.old) (R.faults random.new)) }
+    ensures fault { (key : List ℕ) → IfErr result (DrawFails (go_format key) (16 ∷ []) (R.left random.old) (R.left random.new) (R.faults random.old) (R.faults random.new)) }
     ensures counted { IsCounted (R.faults random.old) (R.faults random.new) }
 {
     let bytes = draw::<16, R>(random)?;

@@ -1,9 +1,10 @@
-ghost use Rattle.std.specs.Prelude.{◌≡◌, ◌+◌, ◌-◌, ◌^◌, ◌<◌, ◌≤◌, true, false, [], length, take, IsOk, IfOk, IfErr, OnOk, OnErr, if◌then◌else◌};
+ghost use Rattle.std.specs.Prelude.{◌≡◌, ◌+◌, ◌-◌, ◌^◌, ◌<◌, ◌≤◌, true, false, [], ◌∷◌, length, take, IsOk, IfOk, IfErr, OnOk, OnErr, if◌then◌else◌};
 ghost use Rattle.port_model.specs.Counts.{IsCounted};
 ghost use Rattle.port_model.specs.Draws.{Draws};
+ghost use Rattle.chunk_files.specs.Buffers.{ChangesFront, KeepsBehind};
 ghost use Rattle.chunk_files.specs.Contents.{is_refused};
 ghost use Rattle.chunk_files.specs.DrawFaults.{DrawFails};
-ghost use Rattle.chunk_files.specs.Encoding.{GoesOn, HasBegun, begins_bare, begun, one_chunk_later};
+ghost use Rattle.chunk_files.specs.Encoding.{GoesOn, HasBegun, begins_bare, begun, one_chunk_later, unbegun};
 ghost use Rattle.chunk_files.specs.Encrypt.{IsEncrypted};
 ghost use Rattle.chunk_files.specs.Keys.{format_of};
 
@@ -24,6 +25,7 @@ pub struct Encoder {
     keys: ContentKeys,
     told: Told,
     number: u64,
+    is_open: bool,
 }
 
 impl Model for Encoder {
@@ -33,7 +35,7 @@ impl Model for Encoder {
 
     ghost Value = { Encoding };
 
-    ghost view = { λ e. record { keys = e.keys; header = header_of e.told; number = e.number } };
+    ghost view = { λ e. record { keys = e.keys; header = header_of e.told; number = e.number; is_open = e.is_open } };
 
     ghost invariant = { λ e. Suits e.told e.keys };
 }
@@ -59,9 +61,11 @@ impl Encoder {
         ensures bare_file { begins_bare keys empty ≡ true → IfOk result (λ b. IsEncrypted keys [] [] (take b.length out.new)) }
         ensures header { begins_bare keys empty ≡ false → IfOk result (λ b. HasBegun keys (R.left random.old) (R.left random.new) b.encoder (take b.length out.new)) }
         ensures length { IfOk result (λ b. b.length ≡ (if begins_bare keys empty then 0 else (format_of keys).header_size)) }
-        ensures begun { IfOk result (λ b. b.encoder ≡ begun keys b.encoder.header) }
+        ensures begun { IfOk result (λ b. b.encoder ≡ begun keys empty b.encoder.header) }
         ensures buffer { begins_bare keys empty ≡ false → OnOk result (length out.new ≡ CHUNK_BUFFER_SIZE) }
-        ensures fault { IfErr result (DrawFails (format_of keys) (format_of keys).header_draw (R.left random.old) (R.left random.new) (R.faults random.old) (R.faults random.new)) }
+        ensures behind { IfOk result (λ b. KeepsBehind b.length out.old out.new) }
+        ensures fault_changes_nothing { OnErr result (out.new ≡ out.old) }
+        ensures fault { IfErr result (DrawFails (format_of keys) (format_of keys).header_draws (R.left random.old) (R.left random.new) (R.faults random.old) (R.faults random.new)) }
         ensures counted { begins_bare keys empty ≡ false → IsCounted (R.faults random.old) (R.faults random.new) }
     {
         let mut encoder = Encoder::new(keys);
@@ -71,13 +75,14 @@ impl Encoder {
 
     /// An encoder under these keys, of which no file was begun. It takes no memory.
     pub fn new(keys: ContentKeys) -> Encoder
-        ensures { result ≡ begun keys result.header }
+        ensures { result ≡ unbegun keys result.header }
     {
         let told = untold(&keys);
         Encoder {
             keys,
             told,
             number: 0,
+            is_open: false,
         }
     }
 
@@ -95,9 +100,11 @@ impl Encoder {
         ensures bare_file { begins_bare keys empty ≡ true → IfOk result (λ length. IsEncrypted keys [] [] (take length out.new)) }
         ensures header { begins_bare keys empty ≡ false → IfOk result (λ length. HasBegun keys (R.left random.old) (R.left random.new) self.new (take length out.new)) }
         ensures length { IfOk result (λ length. length ≡ (if begins_bare keys empty then 0 else (format_of keys).header_size)) }
-        ensures begun { OnOk result (self.new ≡ begun keys self.new.header) }
+        ensures begun { OnOk result (self.new ≡ begun keys empty self.new.header) }
+        ensures unbegun { OnErr result (self.new ≡ unbegun keys self.new.header) }
         ensures buffer { begins_bare keys empty ≡ false → OnOk result (length out.new ≡ CHUNK_BUFFER_SIZE) }
-        ensures fault { IfErr result (DrawFails (format_of keys) (format_of keys).header_draw (R.left random.old) (R.left random.new) (R.faults random.old) (R.faults random.new)) }
+        ensures behind { ChangesFront result out.old out.new }
+        ensures fault { IfErr result (DrawFails (format_of keys) (format_of keys).header_draws (R.left random.old) (R.left random.new) (R.faults random.old) (R.faults random.new)) }
         ensures counted { begins_bare keys empty ≡ false → IsCounted (R.faults random.old) (R.faults random.new) }
     {
         self.turn_to(keys);
@@ -125,21 +132,26 @@ impl Encoder {
         ensures bare_file { begins_bare self.old.keys empty ≡ true → IfOk result (λ length. IsEncrypted self.old.keys [] [] (take length out.new)) }
         ensures header { begins_bare self.old.keys empty ≡ false → IfOk result (λ length. HasBegun self.old.keys (R.left random.old) (R.left random.new) self.new (take length out.new)) }
         ensures length { IfOk result (λ length. length ≡ (if begins_bare self.old.keys empty then 0 else (format_of self.old.keys).header_size)) }
-        ensures begun { OnOk result (self.new ≡ begun self.old.keys self.new.header) }
+        ensures begun { OnOk result (self.new ≡ begun self.old.keys empty self.new.header) }
+        ensures unbegun { OnErr result (self.new ≡ unbegun self.old.keys self.new.header) }
         ensures buffer { begins_bare self.old.keys empty ≡ false → OnOk result (length out.new ≡ CHUNK_BUFFER_SIZE) }
-        ensures fault { IfErr result (DrawFails (format_of self.old.keys) (format_of self.old.keys).header_draw (R.left random.old) (R.left random.new) (R.faults random.old) (R.faults random.new)) }
+        ensures behind { ChangesFront result out.old out.new }
+        ensures fault { IfErr result (DrawFails (format_of self.old.keys) (format_of self.old.keys).header_draws (R.left random.old) (R.left random.new) (R.faults random.old) (R.faults random.new)) }
         ensures counted { begins_bare self.old.keys empty ≡ false → IsCounted (R.faults random.old) (R.faults random.new) }
     {
         self.number = 0;
+        self.is_open = false;
         if empty && self.keys.layout().empty_has_no_header() {
             return Ok(0);
         }
-        make_header(&self.keys, &mut self.told, random, out)
+        let length = make_header(&self.keys, &mut self.told, random, out)?;
+        self.is_open = !empty;
+        Ok(length)
     }
 
-    /// Encodes the next chunk, puts what is to be stored at the front of `out` and answers its length. It
-    /// takes no memory. What was made is a file where each chunk before the last is full and the file wasn't
-    /// begun without a header; elsewhere the chunk is sealed all the same.
+    /// Encodes the next chunk of a file that was begun and not as empty, puts what is to be stored at the front of `out` and answers
+    /// its length. It takes no memory. What was made is a file where each chunk before the last is full; elsewhere the chunk is sealed
+    /// all the same.
     pub fn chunk<R: Randoms>(
         &mut self,
         random: &mut R,
@@ -149,15 +161,17 @@ impl Encoder {
         requires some { 0 < length plain.now }
         requires at_most { length plain.now ≤ (format_of self.old.keys).full_size }
         requires count { self.old.number < 2 ^ 64 - 1 }
+        requires open { self.old.is_open ≡ true }
         ensures goes_on { IfOk result (λ size. GoesOn self.old self.new plain.now (take size out.new)) }
         ensures stored { IfOk result (λ size. take size out.new ≡ (format_of self.old.keys).sealed_chunk self.old.header self.old.number (take (format_of self.old.keys).nonce_size out.new) plain.now) }
         ensures size { IfOk result (λ size. size ≡ (format_of self.old.keys).seal_size + length plain.now) }
         ensures buffer { OnOk result (length out.new ≡ CHUNK_BUFFER_SIZE) }
+        ensures behind { ChangesFront result out.old out.new }
         ensures drawn { OnOk result (Draws (R.left random.old) (R.left random.new) (take (format_of self.old.keys).nonce_size out.new)) }
         ensures accepted { OnOk result (is_refused (format_of self.old.keys) (take (format_of self.old.keys).nonce_size out.new) ≡ false) }
         ensures next { OnOk result (self.new ≡ one_chunk_later self.old) }
         ensures fault_changes_nothing { OnErr result (self.new ≡ self.old) }
-        ensures fault { IfErr result (DrawFails (format_of self.old.keys) 1 (R.left random.old) (R.left random.new) (R.faults random.old) (R.faults random.new)) }
+        ensures fault { IfErr result (DrawFails (format_of self.old.keys) ((format_of self.old.keys).nonce_size ∷ []) (R.left random.old) (R.left random.new) (R.faults random.old) (R.faults random.new)) }
         ensures counted { IsCounted (R.faults random.old) (R.faults random.new) }
     {
         let nonce = draw_nonce(&self.keys, random)?;

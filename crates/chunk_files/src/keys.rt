@@ -39,28 +39,6 @@ impl Layout {
         }
     }
 
-    // The number of bytes of a chunk's nonce.
-    pub fn nonce_size(&self) -> usize
-        ensures size { (key mac : List ℕ) → result ≡ (format_by self.now key mac).nonce_size }
-        ensures few { result ≤ 16 }
-        ensures some { 0 < result }
-    {
-        match self {
-            Layout::Go | Layout::CmCtr => 16,
-            Layout::CmGcm => 12,
-        }
-    }
-
-    // Whether an id or nonce of zeros is refused.
-    pub fn refuses_zeros(&self) -> bool
-        ensures { (key mac : List ℕ) → result ≡ (format_by self.now key mac).refuses_zeros }
-    {
-        match self {
-            Layout::Go => true,
-            Layout::CmGcm | Layout::CmCtr => false,
-        }
-    }
-
     // Whether no bytes stand for no content.
     pub fn empty_has_no_header(&self) -> bool
         ensures { (key mac : List ℕ) → result ≡ (format_by self.now key mac).empty_has_no_header }

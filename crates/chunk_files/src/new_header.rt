@@ -1,9 +1,13 @@
 //! Headers of new files.
 
-ghost use Rattle.std.specs.Prelude.{◌≡◌, IfOk, IfErr, OnOk, length, take};
+ghost use Rattle.std.specs.Prelude.{◌≡◌, ◌∷◌, ◌++◌, [], Bool, ℕ, List, IfOk, IfErr, OnOk, length, take};
 ghost use Rattle.port_model.specs.Counts.{IsCounted};
+ghost use Rattle.port_model.specs.Draws.{Draws};
+ghost use Rattle.chunk_files.specs.Buffers.{ChangesFront};
 ghost use Rattle.chunk_files.specs.DrawFaults.{DrawFails};
 ghost use Rattle.chunk_files.specs.Encoding.{HasBegun, begun};
+ghost use Rattle.chunk_files.specs.Format.{Format};
+ghost use Rattle.chunk_files.specs.Gocryptfs.{go_format};
 ghost use Rattle.chunk_files.specs.Keys.{Keys, format_of};
 ghost use Rattle.chunk_files.specs.Told.{Suits, header_of};
 
@@ -14,6 +18,7 @@ use crate::header::{CM_HEADER, CTR_HEADER, GO_HEADER, go_header, new_plain};
 use crate::keys::{ContentKeys, Layout};
 use crate::told::{CtrTold, GcmTold, Told};
 use port_model::Randoms;
+use port_model::laws::draws_compose;
 
 // Makes a header at the front of `out`, puts what it tells in its place and answers its length.
 pub fn make_header<R: Randoms>(
@@ -24,10 +29,11 @@ pub fn make_header<R: Randoms>(
 ) -> Result<usize, EncodeFault>
     requires { Suits told.old keys.now }
     ensures suits { Suits told.new keys.now }
-    ensures header { IfOk result (λ length. HasBegun keys.now (R.left random.old) (R.left random.new) (begun keys.now (header_of told.new)) (take length out.new)) }
+    ensures header { (empty : Bool) → IfOk result (λ length. HasBegun keys.now (R.left random.old) (R.left random.new) (begun keys.now empty (header_of told.new)) (take length out.new)) }
     ensures length { IfOk result (λ length. length ≡ (format_of keys.now).header_size) }
     ensures buffer { OnOk result (length out.new ≡ CHUNK_BUFFER_SIZE) }
-    ensures fault { IfErr result (DrawFails (format_of keys.now) (format_of keys.now).header_draw (R.left random.old) (R.left random.new) (R.faults random.old) (R.faults random.new)) }
+    ensures behind { ChangesFront result out.old out.new }
+    ensures fault { IfErr result (DrawFails (format_of keys.now) (format_of keys.now).header_draws (R.left random.old) (R.left random.new) (R.faults random.old) (R.faults random.new)) }
     ensures counted { IsCounted (R.faults random.old) (R.faults random.new) }
 {
     match told {
@@ -43,10 +49,11 @@ fn make_go<R: Randoms>(
     random: &mut R,
     out: &mut ChunkBuf,
 ) -> Result<usize, EncodeFault>
-    ensures header { (keys : Keys) → keys.layout ≡ Layout.Go → IfOk result (λ length. HasBegun keys (R.left random.old) (R.left random.new) (begun keys (record { key = keys.key; file = id.new })) (take length out.new)) }
+    ensures header { (keys : Keys) (empty : Bool) → keys.layout ≡ Layout.Go → IfOk result (λ length. HasBegun keys (R.left random.old) (R.left random.new) (begun keys empty (record { key = keys.key; file = id.new })) (take length out.new)) }
     ensures length { IfOk result (λ length. length ≡ GO_HEADER) }
     ensures buffer { OnOk result (length out.new ≡ CHUNK_BUFFER_SIZE) }
-    ensures fault { (keys : Keys) → keys.layout ≡ Layout.Go → IfErr result (DrawFails (format_of keys) 16 (R.left random.old) (R.left random.new) (R.faults random.old) (R.faults random.new)) }
+    ensures behind { ChangesFront result out.old out.new }
+    ensures fault { (key : List ℕ) → IfErr result (DrawFails (go_format key) (16 ∷ []) (R.left random.old) (R.left random.new) (R.faults random.old) (R.faults random.new)) }
     ensures counted { IsCounted (R.faults random.old) (R.faults random.new) }
 {
     let drawn = draw_some(random)?;
@@ -62,19 +69,18 @@ fn make_cm<R: Randoms>(
     out: &mut ChunkBuf,
 ) -> Result<usize, EncodeFault>
     ensures vault { file.new.vault ≡ file.old.vault }
-    ensures header { (keys : Keys) → keys.layout ≡ Layout.CmGcm → keys.key ≡ file.old.vault
-        → IfOk result (λ length. HasBegun keys (R.left random.old) (R.left random.new) (begun keys (record { key = file.new.chunks; file = file.new.nonce })) (take length out.new)) }
+    ensures header { (keys : Keys) (empty : Bool) → keys.layout ≡ Layout.CmGcm → keys.key ≡ file.old.vault
+        → IfOk result (λ length. HasBegun keys (R.left random.old) (R.left random.new) (begun keys empty (record { key = file.new.chunks; file = file.new.nonce })) (take length out.new)) }
     ensures length { IfOk result (λ length. length ≡ CM_HEADER) }
     ensures buffer { OnOk result (length out.new ≡ CHUNK_BUFFER_SIZE) }
-    ensures fault { (keys : Keys) → keys.layout ≡ Layout.CmGcm → IfErr result (DrawFails (format_of keys) 44 (R.left random.old) (R.left random.new) (R.faults random.old) (R.faults random.new)) }
+    ensures behind { ChangesFront result out.old out.new }
+    ensures fault { (f : Format) → IfErr result (DrawFails f (12 ∷ 32 ∷ []) (R.left random.old) (R.left random.new) (R.faults random.old) (R.faults random.new)) }
     ensures counted { IsCounted (R.faults random.old) (R.faults random.new) }
 {
-    let drawn = draw::<44, R>(random)?;
-    let mut key = [0; 32];
-    key.copy_from_slice(&drawn[12..]);
-    let length = out.seal(&file.vault, &[], &drawn[..12], &new_plain(&key));
+    let (nonce, key) = draw_header::<12, R>(random)?;
+    let length = out.seal(&file.vault, &[], &nonce, &new_plain(&key));
     file.chunks.rekey(&key);
-    file.nonce.copy_from_slice(&drawn[..12]);
+    file.nonce = nonce;
     Ok(length)
 }
 
@@ -86,18 +92,33 @@ fn make_ctr<R: Randoms>(
     out: &mut ChunkBuf,
 ) -> Result<usize, EncodeFault>
     ensures vault { file.new.vault ≡ file.old.vault }
-    ensures header { (keys : Keys) → keys.layout ≡ Layout.CmCtr → keys.key ≡ file.old.vault → keys.mac ≡ mac.now
-        → IfOk result (λ length. HasBegun keys (R.left random.old) (R.left random.new) (begun keys (record { key = file.new.chunks; file = file.new.nonce })) (take length out.new)) }
+    ensures header { (keys : Keys) (empty : Bool) → keys.layout ≡ Layout.CmCtr → keys.key ≡ file.old.vault → keys.mac ≡ mac.now
+        → IfOk result (λ length. HasBegun keys (R.left random.old) (R.left random.new) (begun keys empty (record { key = file.new.chunks; file = file.new.nonce })) (take length out.new)) }
     ensures length { IfOk result (λ length. length ≡ CTR_HEADER) }
     ensures buffer { OnOk result (length out.new ≡ CHUNK_BUFFER_SIZE) }
-    ensures fault { (keys : Keys) → keys.layout ≡ Layout.CmCtr → IfErr result (DrawFails (format_of keys) 48 (R.left random.old) (R.left random.new) (R.faults random.old) (R.faults random.new)) }
+    ensures behind { ChangesFront result out.old out.new }
+    ensures fault { (f : Format) → IfErr result (DrawFails f (16 ∷ 32 ∷ []) (R.left random.old) (R.left random.new) (R.faults random.old) (R.faults random.new)) }
     ensures counted { IsCounted (R.faults random.old) (R.faults random.new) }
 {
-    let drawn = draw::<48, R>(random)?;
-    let mut key = [0; 32];
-    key.copy_from_slice(&drawn[16..]);
-    file.nonce.copy_from_slice(&drawn[..16]);
-    let length = out.seal_tagged(&file.vault, mac, &[], &file.nonce, &new_plain(&key));
+    let (nonce, key) = draw_header::<16, R>(random)?;
+    let length = out.seal_tagged(&file.vault, mac, &[], &nonce, &new_plain(&key));
     file.chunks.renew(&key);
+    file.nonce = nonce;
     Ok(length)
+}
+
+// Draws a header's nonce, and then the content key.
+fn draw_header<const N: usize, R: Randoms>(
+    random: &mut R,
+) -> Result<([u8; N], [u8; 32]), EncodeFault>
+    ensures drawn { IfOk result (λ drawn. Draws (R.left random.old) (R.left random.new) (drawn.0 ++ drawn.1)) }
+    ensures nonce { IfOk result (λ drawn. length drawn.0 ≡ N) }
+    ensures key { IfOk result (λ drawn. length drawn.1 ≡ 32) }
+    ensures fault { (f : Format) → IfErr result (DrawFails f (N ∷ 32 ∷ []) (R.left random.old) (R.left random.new) (R.faults random.old) (R.faults random.new)) }
+    ensures counted { IsCounted (R.faults random.old) (R.faults random.new) }
+{
+    draws_compose();
+    let nonce = draw::<N, R>(random)?;
+    let key = draw::<32, R>(random)?;
+    Ok((nonce, key))
 }

@@ -1,8 +1,8 @@
 //! Texts sealed by GCM, stored with their nonce and tag.
 
-ghost use Rattle.std.specs.Prelude.{◌≡◌, ◌<◌, ◌≤◌, ◌+◌, ◌-◌, length};
+ghost use Rattle.std.specs.Prelude.{◌≡◌, ◌<◌, ◌≤◌, ◌+◌, ◌-◌, false, length};
 ghost use Rattle.std.specs.Bool.{OnTrue};
-ghost use Rattle.chunk_files.specs.Sealed.{is_tag_right, plain_text};
+ghost use Rattle.chunk_files.specs.Sealed.{is_tag_right, plain_text, text_of};
 
 use gcm_mode::Gcm;
 use gcm_mode::laws::unsealing_undoes_sealing;
@@ -22,6 +22,7 @@ pub fn open_text(gcm: &Gcm, associated: &[u8], n: usize, stored: &[u8], text: &m
     requires size { length text.old ≡ length stored.now - (n + 16) }
     ensures right { result ≡ is_tag_right gcm.now associated.now n stored.now }
     ensures opened { OnTrue result (text.new ≡ plain_text gcm.now n stored.now) }
+    ensures encrypted { result ≡ false → text.new ≡ text_of n stored.now }
 {
     unsealing_undoes_sealing();
     let end = stored.len() - TAG_SIZE;

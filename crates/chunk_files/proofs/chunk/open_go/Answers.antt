@@ -9,4 +9,4 @@ unfolding read_chunk is_hole
 returns-then-all_zero c = λ key.
     let size : (length c.args.stored.now == 4128) ≡ true = eq-eqb _ _ (omega arith) in
     let zero : is_all_zero c.args.stored.now ≡ true = sym c.if-all_zero.ensures in
-    rw (size, zero) (ap Ok (sym c.put_front.ensures.front), omega arith)
+    rw (size, zero) (ap Ok (sym c.put_front.ensures.front), omega arith, c.put_front.ensures.behind)

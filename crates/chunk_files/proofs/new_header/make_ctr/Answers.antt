@@ -1,17 +1,16 @@
-use Rattle.std.proofs.Common.{◌≡◌, ℕ, List, [], length, take, drop, ap, ap₂, ◌∙◌, arith}
-use Rattle.std.proofs.lemmas.List.{length-drop, take_all}
-use Rattle.chunk_files.specs.CryptomatorGcm.{new_plain}
-use Rattle.chunk_files.specs.Tagged.{tagged_text}
-use Rattle.chunk_files.proofs.Beginnings.{started-ctr}
+use Rattle.std.proofs.Common.{take}
+use Rattle.std.proofs.lemmas.Result.{err_from_is_err_and}
+use Rattle.chunk_files.proofs.Beginnings.{ctr-seals, started-cm}
 use Rattle.chunk_files.proofs.new_header.make_ctr.Goals as goal
 
 pub returns-clause-header : goal.returns-clause-header
-returns-clause-header g c keys ctr vault mac =
-    let drawn : List ℕ = c.in_ok-drawn.drawn in
-    let size : length drawn ≡ 48 = c.in_ok-drawn.ensures.size in
-    let key : c.copy_from_slice.new.self ≡ drop 16 drawn = c.copy_from_slice.ensures.after ∙ take_all 32 (drop 16 drawn) (omega (arith, length-drop 16 drawn, size)) in
-    let nonce = c.copy_from_slice-2.ensures.after in
-    started-ctr keys _ _ drawn c.new_plain.result _ (take c.seal_tagged-length.result c.seal_tagged-length.new.self) ctr c.in_ok-drawn.ensures.drawn size
-    (c.new_plain.ensures ∙ ap new_plain key)
-    (ap₂ (λ (k f : List ℕ). record { key = k; file = f }) (c.renew.ensures ∙ key) nonce)
-    (rw (vault, mac) (c.seal_tagged-length.ensures.stored ∙ ap (λ (n : List ℕ). tagged_text c.args.file.now.vault c.args.mac.now [] n c.new_plain.result) nonce))
+returns-clause-header g c keys empty ctr vault mac =
+    let d = c.in_ok-nonce.ensures in
+    rw c.renew.ensures
+    (started-cm keys 16 _ (ctr-seals keys ctr) empty _ _ _ _ c.new_plain.result (take c.seal_tagged-length.result c.seal_tagged-length.new.self) d.drawn d.nonce d.key c.new_plain.ensures
+    (rw (vault, mac) c.seal_tagged-length.ensures.stored))
+
+pub returns-in_err-nonce-clause-fault : goal.returns-in_err-nonce-clause-fault
+returns-in_err-nonce-clause-fault g c = λ f.
+    let p = err_from_is_err_and c.from_residual.result c.from_residual.ensures.1 in
+    rw (p.1, p.2) (c.in_err-nonce.ensures.fault f)

@@ -57,6 +57,6 @@ returns-in-Err-clause-gives c =
     let size : c.min-size.result ≡ min (length d.held) (stored_size (format_of d.keys)) = c.min-size.ensures ∙ ap₂ min c.len-held.ensures.count stored in
     let bytes = ap₂ (λ (b : List ℕ) (t : Told). read_chunk (format_of d.keys) (header_of t) d.number (take c.min-size.result b)) (sym c.bytes.ensures) (sym c.deref.ensures) in
     rw (← c.self.view_is) (
-      λ more goes_on follow. chunk-read-at d.keys (header_told d.is_told d.told.value) _ d.number _ d.held more d.ended goes_on c.min-size.result (some-told d.is_told d.told.value (rw (← c.self.view_is) at c.requires)) some whole size (bytes ∙ c.in-Err.ensures) follow,
+      λ more goes_on follow. chunk-read-at d.keys (header_told d.is_told d.told.value) _ d.number _ d.held more d.ended goes_on c.min-size.result (some-told d.is_told d.told.value (rw (← c.self.view_is) at c.requires)) some whole size (bytes ∙ c.in-Err.ensures.0) follow,
       λ more goes_on follow. refl,
     )

@@ -12,7 +12,7 @@ pub returns-clause-goes_on : goal.returns-clause-goes_on
 returns-clause-goes_on g c =
     let e = c.self.inside in
     let nonce : List ℕ = take c.in_ok-nonce.nonce.size c.in_ok-nonce.nonce.bytes in
-    let made : Encoding = record { keys = e.keys; header = header_of e.told; number = e.number } in
+    let made : Encoding = record { keys = e.keys; header = header_of e.told; number = e.number; is_open = e.is_open } in
     let stored : List ℕ = take c.seal_chunk-size.result c.seal_chunk-size.new.out in
     let is = c.seal_chunk-size.ensures.stored in
     let most : length c.args.plain.now ≤ (format_of e.keys).full_size = omega (arith, ap (λ (x : Encoding). (format_of x.keys).full_size) c.self.view_is, c.requires.at_most) in

@@ -1,5 +1,7 @@
 -- A header and chunks are stored in a staged file: what each exit says.
-use Rattle.std.proofs.Common.{◌≡◌, ◌≢◌, ℕ, ◌+◌, ◌<◌, ◌≤◌, ◌==◌, ◌&&◌, Bool, true, false, List, [], ◌∷◌, ◌++◌, length, take, replicate, Option, Result, Ok, Err, refl, sym, ap, ◌∙◌, subst, inl, inr, append_assoc, length-append, arith}
+use Rattle.std.proofs.Common.{◌≡◌, ◌≢◌, ℕ, ◌+◌, ◌<◌, ◌≤◌, ◌==◌, ◌&&◌, not, Bool, true, false, List, [], ◌∷◌, ◌++◌, length, take, replicate, Option, Result, Ok, Err, refl, sym, ap, ◌∙◌, subst, inl, inr, append_assoc, length-append, arith}
+use Rattle.std.specs.List.{sum}
+use Rattle.std.proofs.lemmas.Bool.{false_from_ne_true}
 use Rattle.std.proofs.lemmas.List.{append-nil, length-take, nil_from_length, take-take}
 use Rattle.std.proofs.Math.Nat.{min-le_left}
 use Rattle.std.proofs.Math.Dec.{eqb-suc-zero}
@@ -10,6 +12,7 @@ use Rattle.chunk_files.specs.DrawFaults.{DrawFails}
 use Rattle.chunk_files.specs.Encoding.{Encoding, HasMade, HasBegun, GoesOn, MadeIsAFront, begins_bare, begun, one_chunk_later}
 use Rattle.chunk_files.specs.Encrypt.{AreAccepted, IsEncrypted, encrypt, has_no_bytes}
 use Rattle.chunk_files.specs.Keys.{Keys, format_of}
+use Rattle.chunk_files.proofs.LayoutSizes.{sizes_fit}
 use Rattle.folder_spec.specs.declared.FolderFault.{FolderFault}
 use Rattle.folder_spec.specs.declared.FolderFault.TheVariants as folder
 use Rattle.folder_spec.specs.Path.{Path}
@@ -51,10 +54,6 @@ pub some_bytes : (xs : List ℕ) → (length xs == 0) ≡ false → 0 < length x
 some_bytes [] is = absurd (let clash : true ≡ false = is in cc)
 some_bytes (x ∷ xs) is = omega arith
 
-not_true : (b : Bool) → (b ≡ true → ⊥) → b ≡ false
-not_true true h = absurd (h refl)
-not_true false h = refl
-
 -- ---- a chunk that is sealed
 
 abbrev pub SealsBy : Encoding → Encoding → List ℕ → List ℕ → List ℕ → Result (Unit {0}) EncodeFault → Type 0
@@ -85,10 +84,11 @@ module _ (law : MadeIsAFront) (e e' : Encoding) (chunk : List ℕ) (stream strea
     ends = fails;
   }
 
-  pub seal_undrawn : (n n' : ℕ) (fault : EncodeFault) → DrawFails (format_of e.keys) 1 stream stream' n n' fault → Seals e e' chunk [] stream stream' (Err fault)
+  pub seal_undrawn : (n n' : ℕ) (fault : EncodeFault) → DrawFails (format_of e.keys) ((format_of e.keys).nonce_size ∷ []) stream stream' n n' fault → Seals e e' chunk [] stream stream' (Err fault)
   seal_undrawn n n' encodes.Random h =
-      let few : length h.1.0 < 1 = h.1.1 in
-      unsealed h.1.0 encodes.Random h.1.2 (omega (arith, few)) (λ not. nil_from_length h.1.0 (omega (arith, few))) (λ drawn content file made. tt)
+      let first : h.1.made ≡ 0 = omega (arith, h.1.not_all) in
+      let none : length h.1.drawn ≡ 0 = h.1.size ∙ ap (λ (made : ℕ). sum (take made ((format_of e.keys).nonce_size ∷ []))) first in
+      unsealed h.1.drawn encodes.Random h.1.were_drawn (omega (arith, none)) (λ not. nil_from_length h.1.drawn none) (λ drawn content file made. tt)
   seal_undrawn n n' encodes.ZeroRandom h =
       unsealed (replicate 16 0) encodes.ZeroRandom h.1 (zeros_drawn e.keys h.0).0 (λ not. absurd (not refl))
       (λ drawn content file made. zeros_behind e.keys drawn h.0 (whole_drawn e e.keys drawn content file refl made h.0))
@@ -117,6 +117,7 @@ pub record IsHeaded (keys : Keys) (empty : Bool) (stream stream' : Option ByteSt
   pub accepted : WereAccepted keys drawn
   pub same_keys : e.keys ≡ keys
   pub first : e.number ≡ 0
+  pub open : empty ≡ false → e.is_open ≡ true
   pub whole : empty ≡ true → IsEncrypted keys drawn [] made
   pub goes_on : empty ≡ false → HasMade e drawn [] made
 
@@ -136,7 +137,7 @@ module _ (keys : Keys) (chunk : List ℕ) (stream stream' : Option ByteStream) w
     drawn = drawn;
     were_drawn = drew;
     fits = λ rest next. record {
-      enough = header_enough (format_of keys) drawn (chunk ++ rest) (bare_alike keys chunk rest next ∙ not_true (begins_bare keys (length chunk == 0)) bare) few;
+      enough = header_enough (format_of keys) drawn (chunk ++ rest) (bare_alike keys chunk rest next ∙ false_from_ne_true (begins_bare keys (length chunk == 0)) bare) few;
       front = none_in_front (encrypt keys drawn (chunk ++ rest));
     };
     accepted = accepted;
@@ -144,10 +145,10 @@ module _ (keys : Keys) (chunk : List ℕ) (stream stream' : Option ByteStream) w
   }
 
   pub front_undrawn : (e : Encoding) (n n' : ℕ) (fault : EncodeFault) → (begins_bare keys (length chunk == 0) ≡ true → ⊥)
-      → DrawFails (format_of keys) (format_of keys).header_draw stream stream' n n' fault → MakesFront keys chunk stream stream' e [] (Err fault)
+      → DrawFails (format_of keys) (format_of keys).header_draws stream stream' n n' fault → MakesFront keys chunk stream stream' e [] (Err fault)
   front_undrawn e n n' encodes.Random bare h =
-      let few : length h.1.0 < (format_of keys).header_draw = h.1.1 in
-      front_none e h.1.0 encodes.Random bare h.1.2 (omega (arith, few)) (λ not long. absurd (omega (arith, few, long))) tt
+      let few : length h.1.drawn < (format_of keys).header_draw = omega (arith, h.1.size, (sizes_fit keys).drawn_by_some h.1.made h.1.not_all) in
+      front_none e h.1.drawn encodes.Random bare h.1.were_drawn (omega (arith, few)) (λ not long. absurd (omega (arith, few, long))) tt
   front_undrawn e n n' encodes.ZeroRandom bare h =
       front_none e (replicate 16 0) encodes.ZeroRandom bare h.1 (zeros_drawn keys h.0).1 (λ not. absurd (not refl)) (zeros_behind keys [] h.0 (0, refl))
 
@@ -168,6 +169,7 @@ module _ (keys : Keys) (chunk : List ℕ) (stream stream' : Option ByteStream) w
         ends = record {
           same_keys = h.same_keys;
           few = omega (arith, h.first);
+          open = λ some. absurd (omega (arith, empty, some));
           whole = whole;
           goes_on = λ full. absurd (short full);
         };
@@ -178,6 +180,7 @@ front_by : (keys : Keys) (chunk header piece : List ℕ) (stream stream1 : Optio
 front_by keys chunk header piece stream stream1 e e' (Ok done) h drawn some later ends = record {
   same_keys = ends.same_keys ∙ h.same_keys;
   few = omega (arith, later, h.first, some);
+  open = λ _. ends.open ∙ h.open refl;
   whole = subst (λ (k : Keys). IsEncrypted k (h.drawn ++ drawn) chunk (header ++ piece)) h.same_keys (ends.whole h.drawn [] header (h.goes_on refl));
   goes_on = λ full. ends.goes_on h.drawn [] header (h.goes_on refl) (full ∙ ap (λ (k : Keys). (format_of k).full_size) (sym h.same_keys));
 }
@@ -199,7 +202,7 @@ front_sealed keys chunk header piece stream stream1 stream' e e' result compose 
   ends = front_by keys chunk header piece stream stream1 e e' result h s.drawn some later s.ends;
 }
 
-pub headed : (keys : Keys) (empty : Bool) (stream stream' : Option ByteStream) → (none : (s : Option ByteStream) → Draws s s []) (made : List ℕ) (e : Encoding) → e ≡ begun keys e.header
+pub headed : (keys : Keys) (empty : Bool) (stream stream' : Option ByteStream) → (none : (s : Option ByteStream) → Draws s s []) (made : List ℕ) (e : Encoding) → e ≡ begun keys empty e.header
     → (begins_bare keys empty ≡ true → stream' ≡ stream) → (begins_bare keys empty ≡ true → IsEncrypted keys [] [] made)
     → (begins_bare keys empty ≡ false → HasBegun keys stream stream' e made) → IsHeaded keys empty stream stream' made e
 headed keys empty stream stream' none made e first undrawn bare header = by_test (begins_bare keys empty) refl
@@ -215,6 +218,9 @@ headed keys empty stream stream' none made e first undrawn bare header = by_test
     same : e.keys ≡ keys
     same = ap (λ (x : Encoding). x.keys) first
 
+    opened : empty ≡ false → e.is_open ≡ true
+    opened some = ap (λ (x : Encoding). x.is_open) first ∙ ap not some
+
     number : e.number ≡ 0
     number = ap (λ (x : Encoding). x.number) first
 
@@ -225,6 +231,7 @@ headed keys empty stream stream' none made e first undrawn bare header = by_test
       accepted = none_accepted keys;
       same_keys = same;
       first = number;
+      open = opened;
       whole = λ _. bare is;
       goes_on = λ some. absurd (let clash : false ≡ true = sym some ∙ empty_of empty is in cc);
     }
@@ -236,6 +243,7 @@ headed keys empty stream stream' none made e first undrawn bare header = by_test
           accepted = λ long. subst (λ (k : Keys). AreAccepted (format_of k) h.drawn) same h.made.accepted;
           same_keys = same;
           first = number;
+          open = opened;
           whole = λ none_. h.whole (headerless empty none_ is);
           goes_on = λ _. h.made;
         }

@@ -21,7 +21,7 @@ use Rattle.content_writing.specs.Streaming.{Gathers, FailsToStore, IsMadeFor, St
 use Rattle.content_writing.specs.Writing.{WritesContent}
 use Rattle.item_making.specs.declared.fault.PutFault.{PutFault}
 use Rattle.content_writing.proofs.Comings.{gave_none, gave_more, ended_on, all_of, rest_of, rest_none, all_is, ending_is}
-use Rattle.content_writing.proofs.Drawing.{none_accepted, encrypted_accepted, none_in_front}
+use Rattle.content_writing.proofs.Drawing.{none_accepted, encrypted_accepted, none_in_front, some_full}
 use Rattle.content_writing.proofs.Standing.{stages_none, staged_stages}
 use Rattle.content_writing.proofs.Exits.{ending_by, ends_as, ends_storing, ends_folder, ends_gathering}
 
@@ -79,6 +79,7 @@ module _ (w : Start) where
       staged = subst (λ (t : Option Told). IsStaged w.at b.made t told) same b.ends.1;
       whole = b.ends.0.whole;
       goes_on = b.ends.0.goes_on;
+      open = λ all. b.ends.0.open (omega (arith, all, some_full w.keys));
       size = size;
       last = h.ends;
     }
@@ -124,6 +125,7 @@ module _ (w : Start) where
         staged = staged_now;
         whole = i.whole;
         goes_on = λ full_. absurd (omega (arith, full_, ap length none, some_full));
+        open = λ full_. absurd (omega (arith, full_, ap length none, some_full));
         size = omega (arith, ap length none);
         last = last_now;
       }
@@ -161,6 +163,7 @@ module _ (w : Start) where
           staged = s.staged w.told i.made staged_now;
           whole = subst (λ (k : Keys). IsEncrypted k (i.drawn ++ s.drawn) given (i.made ++ s.piece)) i.same_keys (s.ends.whole i.drawn i.content i.made (i.goes_on all));
           goes_on = λ full_. s.ends.goes_on i.drawn i.content i.made (i.goes_on all) (full_ ∙ ap (λ (k : Keys). (format_of k).full_size) (sym i.same_keys));
+          open = λ _. s.ends.open ∙ i.open all;
           size = size;
           last = last_now;
         }

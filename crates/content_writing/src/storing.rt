@@ -1,5 +1,5 @@
 //! Storing the header and the chunks of a content file in a staged file.
-ghost use Rattle.std.specs.Prelude.{◌≡◌, ◌≤◌, ◌<◌, ◌+◌, ◌-◌, ◌^◌, Err, length, OnErr};
+ghost use Rattle.std.specs.Prelude.{◌≡◌, ◌≤◌, ◌<◌, ◌+◌, ◌-◌, ◌^◌, Err, true, length, OnErr};
 ghost use Rattle.port_model.specs.Counts.{CountRose};
 ghost use Rattle.chunk_files.specs.Keys.{format_of};
 ghost use Rattle.folder_spec.specs.Seen.{IfSeen, ShowsFile};
@@ -78,6 +78,7 @@ pub(crate) fn store_chunk<F: Folder, R: Randoms>(
 ) -> Result<(), PutFault>
     requires at_most { length plain.now ≤ (format_of encoder.old.keys).full_size }
     requires count { encoder.old.number < 2 ^ 64 - 1 }
+    requires open { encoder.old.is_open ≡ true }
     requires file { IfSeen (F.told folder.old) (λ v. ShowsFile v staged.now) }
     ensures none { length plain.now ≡ 0 → (folder.new ≡ folder.old) × (random.new ≡ random.old) × (encoder.new ≡ encoder.old) }
     ensures some { OnErr result (0 < length plain.now) }

@@ -126,6 +126,12 @@ store_chunk-requires-clause-file g c =
     let told1 = g.F.Folder.told c.gather-in-chunks.new.folder in
     staged_seen w i.made told1 c.written_files_are_seen.ensures (subst (λ (t : Option Told). IsStaged w.at i.made told t) (sym c.in_ok-gather-2.ensures.told) i.staged)
 
+pub store_chunk-requires-clause-open : goal.store_chunk-requires-clause-open
+store_chunk-requires-clause-open g c =
+    let full : c.full-full.result ≡ (format_of c.args.keys).full_size = full_at c.args.keys c.layout.result c.full-full.result c.layout.ensures c.full-full.ensures in
+    let all : length c.chunks.plain ≡ (format_of c.args.keys).full_size = omega (arith, c.len.ensures, c.chunks-test.true, full) in
+    c.chunks.invariant.underway.open all
+
 pub chunks-preserved : goal.chunks-preserved
 chunks-preserved g c =
     let told = g.F.Folder.told c.args.folder.now in

@@ -1,6 +1,6 @@
 //! Calls of chunk_files.
 
-ghost use Rattle.std.specs.Prelude.{◌≡◌, ◌+◌, ◌-◌, ◌^◌, ◌<◌, ◌≤◌, length, IfOk, OnOk};
+ghost use Rattle.std.specs.Prelude.{◌≡◌, ◌+◌, ◌-◌, ◌^◌, ◌<◌, ◌≤◌, true, not, length, IfOk, OnOk};
 ghost use Rattle.chunk_files.specs.Keys.{format_of};
 
 use crate::answer::Answer;
@@ -135,7 +135,7 @@ struct Making {
 
 // Begins a file under random bytes.
 fn begin(alloc: Global, keys: ContentKeys, empty: bool, random: &[u8]) -> Result<Making, NotMade>
-    ensures { IfOk result (λ m. (m.encoder.number ≡ 0) × (m.encoder.keys ≡ keys)) }
+    ensures { IfOk result (λ m. (m.encoder.number ≡ 0) × (m.encoder.keys ≡ keys) × (m.encoder.is_open ≡ not empty)) }
 {
     let mut random = ListRandoms::new(random.to_vec(alloc)?, Vec::new(alloc));
     let mut out = ChunkBuf::new(alloc)?;
@@ -154,7 +154,8 @@ impl Making {
     fn add(&mut self, plain: &[u8]) -> Result<(), NotMade>
         requires size { length plain.now ≤ (format_of self.old.encoder.keys).full_size }
         requires count { self.old.encoder.number < 2 ^ 64 - 1 }
-        ensures { OnOk result ((self.new.encoder.number ≤ self.old.encoder.number + 1) × (self.new.encoder.keys ≡ self.old.encoder.keys)) }
+        requires open { self.old.encoder.is_open ≡ true }
+        ensures { OnOk result ((self.new.encoder.number ≤ self.old.encoder.number + 1) × (self.new.encoder.keys ≡ self.old.encoder.keys) × (self.new.encoder.is_open ≡ true)) }
     {
         if plain.is_empty() {
             return Ok(());
@@ -170,6 +171,7 @@ impl Making {
         requires size { full ≡ (format_of self.old.encoder.keys).full_size }
         requires some { 1 ≤ full }
         requires first { self.old.encoder.number ≡ 0 }
+        requires open { self.old.encoder.is_open ≡ true }
     {
         'chunks: for number in 0..content.len().div_ceil(full) {
             self.add(chunk_at(content, number.saturating_mul(full), full))?;
@@ -186,8 +188,11 @@ fn made(
     random: &[u8],
 ) -> Result<Vec<u8>, NotMade> {
     let full = full_of(&keys);
-    let mut making = begin(alloc, keys, content.is_empty(), random)?;
-    making.add_all(content, full)?;
+    let empty = content.is_empty();
+    let mut making = begin(alloc, keys, empty, random)?;
+    if !empty {
+        making.add_all(content, full)?;
+    }
     Ok(making.file)
 }
 

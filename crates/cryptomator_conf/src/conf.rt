@@ -61,7 +61,7 @@ pub struct VaultFile {
 }
 
 /// What is drawn for new files.
-#[derive(Clone, Copy, PartialEq, Eq)]
+#[derive(Clone, Copy)]
 pub struct CmDraw {
     pub enc: [u8; 32],
     pub mac: [u8; 32],

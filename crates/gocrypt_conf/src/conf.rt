@@ -14,7 +14,7 @@ pub struct GoConf {
 }
 
 /// What is drawn for a new configuration.
-#[derive(Clone, Copy, PartialEq, Eq)]
+#[derive(Clone, Copy)]
 pub struct GoDraw {
     pub master: [u8; 32],
     pub salt: [u8; 32],

@@ -6,7 +6,7 @@ use Rattle.std.proofs.Math.Nat.{zero-div}
 use Rattle.aes_lanes.specs.Field.{affine_map, inverse_affine_map, inverse_sbox, sbox}
 use Rattle.aes_lanes.specs.Laws.Field.{at_each, inverses, inverse_by_table, sbox_by_table, sbox-by_table, inverse_affine_map-lt, inverse_sbox_by_table, inverse_sbox-by_table}
 use Rattle.aes_lanes.specs.Planes.{IsPlane, bit, bit_of, byte_of, byte_at}
-use Rattle.aes_lanes.proofs.PlaneBits.{IsPlane-sum, IsPlane-both, IsPlane-splat, bit-sum, bit-both, bit-lt, bit_of-xor, bit_of-and, eight, eight_same, bits_of, on_bits}
+use Rattle.aes_lanes.proofs.PlaneBits.{IsBitwise, IsBitwise-xor, IsBitwise-and, IsPlane-zip2, IsPlane-splat, bit-zip2, bit-lt, eight, eight_of, eight_same, bits_of, on_bits}
 
 -- a gate of two earlier values, each named by how many values stand between
 pub data Gate : Type 0 where
@@ -108,10 +108,10 @@ unfolding values
 values-numbers k [] given = refl
 values-numbers k (sum i j ∷ gates) given =
     values-numbers k gates (bit_xor (get_or given i 0) (get_or given j 0) ∷ given)
-    ∙ ap (λ b. values bit_xor bit_and 0 gates (b ∷ map (bit_of k) given)) (bit_of-xor k (get_or given i 0) (get_or given j 0) ∙ ap₂ bit_xor (bit_of-picked k given i) (bit_of-picked k given j))
+    ∙ ap (λ b. values bit_xor bit_and 0 gates (b ∷ map (bit_of k) given)) (IsBitwise-xor.at k (get_or given i 0) (get_or given j 0) ∙ ap₂ bit_xor (bit_of-picked k given i) (bit_of-picked k given j))
 values-numbers k (both i j ∷ gates) given =
     values-numbers k gates (bit_and (get_or given i 0) (get_or given j 0) ∷ given)
-    ∙ ap (λ b. values bit_xor bit_and 0 gates (b ∷ map (bit_of k) given)) (bit_of-and k (get_or given i 0) (get_or given j 0) ∙ ap₂ bit_and (bit_of-picked k given i) (bit_of-picked k given j))
+    ∙ ap (λ b. values bit_xor bit_and 0 gates (b ∷ map (bit_of k) given)) (IsBitwise-and.at k (get_or given i 0) (get_or given j 0) ∙ ap₂ bit_and (bit_of-picked k given i) (bit_of-picked k given j))
 
 -- gates that are a function of each byte, on the bits k of eight numbers, beside a number of which that bit is 1
 pub byte_of-gates : (gates : List Gate) (i0 i1 i2 i3 i4 i5 i6 i7 : ℕ) (f : ℕ → ℕ)
@@ -148,16 +148,10 @@ HaveBits-more p k plane b planes bits first rest = record { each = more } where
   more zero = first
   more (suc i) = rest.each i
 
-HasBit-sum : (p k : ℕ) (u v : List ℕ) (a b : ℕ) → p < 32 → HasBit p k u a → HasBit p k v b → HasBit p k (zip2 bit_xor u v) (bit_xor a b)
-HasBit-sum p k u v a b lt f g = record {
-  plane = IsPlane-sum u v f.plane g.plane;
-  same = bit-sum p k u v lt f.plane g.plane ∙ ap₂ bit_xor f.same g.same;
-}
-
-HasBit-both : (p k : ℕ) (u v : List ℕ) (a b : ℕ) → p < 32 → HasBit p k u a → HasBit p k v b → HasBit p k (zip2 bit_and u v) (bit_and a b)
-HasBit-both p k u v a b lt f g = record {
-  plane = IsPlane-both u v f.plane g.plane;
-  same = bit-both p k u v lt f.plane g.plane ∙ ap₂ bit_and f.same g.same;
+HasBit-zip2 : (f : ℕ → ℕ → ℕ) → IsBitwise f → (p k : ℕ) (u v : List ℕ) (a b : ℕ) → p < 32 → HasBit p k u a → HasBit p k v b → HasBit p k (zip2 f u v) (f a b)
+HasBit-zip2 f bitwise p k u v a b lt first second = record {
+  plane = IsPlane-zip2 f bitwise.byte u v first.plane second.plane;
+  same = bit-zip2 f bitwise p k u v lt first.plane second.plane ∙ ap₂ f first.same second.same;
 }
 
 -- gates keep planes and bits together
@@ -166,9 +160,9 @@ pub values-bits : (p k : ℕ) → p < 32 → (gates : List Gate) (planes : List 
 unfolding values
 values-bits p k lt [] planes bits have = have
 values-bits p k lt (sum i j ∷ gates) planes bits have =
-    values-bits p k lt gates _ _ (HaveBits-more p k _ _ planes bits (HasBit-sum p k _ _ _ _ lt (have.each i) (have.each j)) have)
+    values-bits p k lt gates _ _ (HaveBits-more p k _ _ planes bits (HasBit-zip2 bit_xor IsBitwise-xor p k _ _ _ _ lt (have.each i) (have.each j)) have)
 values-bits p k lt (both i j ∷ gates) planes bits have =
-    values-bits p k lt gates _ _ (HaveBits-more p k _ _ planes bits (HasBit-both p k _ _ _ _ lt (have.each i) (have.each j)) have)
+    values-bits p k lt gates _ _ (HaveBits-more p k _ _ planes bits (HasBit-zip2 bit_and IsBitwise-and p k _ _ _ _ lt (have.each i) (have.each j)) have)
 
 HasBit-splat : (p k n b : ℕ) → n < 256 → p < 32 → n / 2 ^ k % 2 ≡ b → HasBit p k (replicate 32 n) b
 HasBit-splat p k n b byte lt is = record {
@@ -209,7 +203,7 @@ module _ (gates : List Gate) (i0 i1 i2 i3 i4 i5 i6 i7 : ℕ) (f : ℕ → ℕ)
   all = values (zip2 bit_xor) (zip2 bit_and) zeros gates (p7 ∷ p6 ∷ p5 ∷ p4 ∷ p3 ∷ p2 ∷ p1 ∷ p0 ∷ ones ∷ [])
 
   abbrev old : List (List ℕ)
-  old = p0 ∷ p1 ∷ p2 ∷ p3 ∷ p4 ∷ p5 ∷ p6 ∷ p7 ∷ []
+  old = eight_of p0 p1 p2 p3 p4 p5 p6 p7
 
   abbrev new : List (List ℕ)
   new = chosen zeros (i0 ∷ i1 ∷ i2 ∷ i3 ∷ i4 ∷ i5 ∷ i6 ∷ i7 ∷ []) all

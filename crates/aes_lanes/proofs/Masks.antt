@@ -28,7 +28,11 @@ pub masked-all : (s : List ℕ) → length s ≡ 16 → map (λ x. bit_xor x 0x6
 unfolding xor_bytes
 masked-all = of_sixteen _ (λ a b c d e f g h i j k l m n o p. refl)
 
-pub masked-shift : (s : List ℕ) → length s ≡ 16 → shift_rows (xor_bytes s sixty_threes) ≡ xor_bytes (shift_rows s) sixty_threes
+-- 0x63 added to a state goes through a step
+abbrev PassesMask : (List ℕ → List ℕ) → Type 0
+PassesMask step = (s : List ℕ) → length s ≡ 16 → step (xor_bytes s sixty_threes) ≡ xor_bytes (step s) sixty_threes
+
+masked-shift : PassesMask shift_rows
 unfolding shift_rows xor_bytes
 masked-shift = of_sixteen _ (λ a b c d e f g h i j k l m n o p. refl)
 
@@ -79,7 +83,7 @@ four_columns : (a b c d e f g h i j k l m n o p : ℕ)
 unfolding column_product xor_bytes
 four_columns a b c d e f g h i j k l m n o p = refl
 
-pub masked-mix : (s : List ℕ) → length s ≡ 16 → mix_columns (xor_bytes s sixty_threes) ≡ xor_bytes (mix_columns s) sixty_threes
+masked-mix : PassesMask mix_columns
 unfolding mix_columns xor_bytes
 masked-mix = of_sixteen _ (λ a b c d e f g h i j k l m n o p.
     ap₂ (λ w x. w ++ x ++ column_product (bit_xor i 0x63) (bit_xor j 0x63) (bit_xor k 0x63) (bit_xor l 0x63)

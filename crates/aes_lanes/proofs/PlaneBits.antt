@@ -29,11 +29,25 @@ IsPlane-zip2 f byte u v a b =
       ];
     }
 
-pub IsPlane-sum : (u v : List ℕ) → IsPlane u → IsPlane v → IsPlane (zip2 bit_xor u v)
-IsPlane-sum = IsPlane-zip2 bit_xor (λ x y hx hy. xor_lt 8 x y hx hy)
+-- an operator that takes bytes to bytes, bit by bit
+pub record IsBitwise (f : ℕ → ℕ → ℕ) : Type 0 where
+  pub byte : (x y : ℕ) → x < 256 → y < 256 → f x y < 256
+  pub at : (k x y : ℕ) → f x y / 2 ^ k % 2 ≡ f (x / 2 ^ k % 2) (y / 2 ^ k % 2)
 
-pub IsPlane-both : (u v : List ℕ) → IsPlane u → IsPlane v → IsPlane (zip2 bit_and u v)
-IsPlane-both = IsPlane-zip2 bit_and (λ x y hx hy. let below = and_le_l x y in omega (arith, below))
+pub IsBitwise-xor : IsBitwise bit_xor
+IsBitwise-xor = record {
+  byte = λ x y hx hy. xor_lt 8 x y hx hy;
+  at = λ k x y. ap (λ (n : ℕ). n % 2) (xor_shr x y k) ∙ xor_mod (x / 2 ^ k) (y / 2 ^ k) 1;
+}
+
+pub IsBitwise-and : IsBitwise bit_and
+IsBitwise-and = record {
+  byte = λ x y hx hy. let below = and_le_l x y in omega (arith, below);
+  at = λ k x y. ap (λ (n : ℕ). n % 2) (and_shr x y k) ∙ and_mod (x / 2 ^ k) (y / 2 ^ k) 1;
+}
+
+pub IsPlane-sum : (u v : List ℕ) → IsPlane u → IsPlane v → IsPlane (zip2 bit_xor u v)
+IsPlane-sum = IsPlane-zip2 bit_xor IsBitwise-xor.byte
 
 -- the same byte in each place
 pub IsPlane-splat : (n : ℕ) → n < 256 → IsPlane (replicate 32 n)
@@ -47,24 +61,15 @@ IsPlane-splat n byte = record {
   ];
 }
 
--- a bit of a sum and of a product of bits
-pub bit_of-xor : (k x y : ℕ) → bit_xor x y / 2 ^ k % 2 ≡ bit_xor (x / 2 ^ k % 2) (y / 2 ^ k % 2)
-bit_of-xor k x y = ap (λ n. n % 2) (xor_shr x y k) ∙ xor_mod (x / 2 ^ k) (y / 2 ^ k) 1
-
-pub bit_of-and : (k x y : ℕ) → bit_and x y / 2 ^ k % 2 ≡ bit_and (x / 2 ^ k % 2) (y / 2 ^ k % 2)
-bit_of-and k x y = ap (λ n. n % 2) (and_shr x y k) ∙ and_mod (x / 2 ^ k) (y / 2 ^ k) 1
+-- a bit of such an operator on two planes
+pub bit-zip2 : (f : ℕ → ℕ → ℕ) → IsBitwise f → (p k : ℕ) (u v : List ℕ) → p < 32 → IsPlane u → IsPlane v → bit p k (zip2 f u v) ≡ f (bit p k u) (bit p k v)
+bit-zip2 f bitwise p k u v lt a b =
+    let in_u : p < length u = omega (arith, a.long) in
+    let in_v : p < length v = omega (arith, b.long) in
+    ap (λ n. n / 2 ^ k % 2) (get_or-zip2 f u v p 0 0 0 in_u in_v) ∙ bitwise.at k (slice_index u p) (slice_index v p)
 
 pub bit-sum : (p k : ℕ) (u v : List ℕ) → p < 32 → IsPlane u → IsPlane v → bit p k (zip2 bit_xor u v) ≡ bit_xor (bit p k u) (bit p k v)
-bit-sum p k u v lt a b =
-    let in_u : p < length u = omega (arith, a.long) in
-    let in_v : p < length v = omega (arith, b.long) in
-    ap (λ n. n / 2 ^ k % 2) (get_or-zip2 bit_xor u v p 0 0 0 in_u in_v) ∙ bit_of-xor k (slice_index u p) (slice_index v p)
-
-pub bit-both : (p k : ℕ) (u v : List ℕ) → p < 32 → IsPlane u → IsPlane v → bit p k (zip2 bit_and u v) ≡ bit_and (bit p k u) (bit p k v)
-bit-both p k u v lt a b =
-    let in_u : p < length u = omega (arith, a.long) in
-    let in_v : p < length v = omega (arith, b.long) in
-    ap (λ n. n / 2 ^ k % 2) (get_or-zip2 bit_and u v p 0 0 0 in_u in_v) ∙ bit_of-and k (slice_index u p) (slice_index v p)
+bit-sum = bit-zip2 bit_xor IsBitwise-xor
 
 pub bit-lt : (n : ℕ) → n % 2 < 2
 bit-lt n = omega arith
@@ -85,6 +90,10 @@ eight P a b c d e f g h (suc (suc (suc (suc (suc zero))))) lt = f
 eight P a b c d e f g h (suc (suc (suc (suc (suc (suc zero)))))) lt = g
 eight P a b c d e f g h (suc (suc (suc (suc (suc (suc (suc zero))))))) lt = h
 eight P a b c d e f g h (suc (suc (suc (suc (suc (suc (suc (suc k)))))))) lt = absurd (omega arith)
+
+-- a list of eight
+abbrev pub eight_of : {A : Type 0} → A → A → A → A → A → A → A → A → List A
+eight_of a b c d e f g h = a ∷ b ∷ c ∷ d ∷ e ∷ f ∷ g ∷ h ∷ []
 
 -- lists of eight that are the same at each place
 pub eight_same : {A : Type 0} {a b c d e f g h a' b' c' d' e' f' g' h' : A}
@@ -172,7 +181,7 @@ byte_of-bits = at_each (λ x. byte_of (bits_of x)) (λ x. x) refl
 
 pub bits_of-xor : (x y : ℕ) → bits_of (bit_xor x y) ≡ zip2 bit_xor (bits_of x) (bits_of y)
 unfolding bits_of
-bits_of-xor x y = eight_same (bit_of-xor 0 x y) (bit_of-xor 1 x y) (bit_of-xor 2 x y) (bit_of-xor 3 x y) (bit_of-xor 4 x y) (bit_of-xor 5 x y) (bit_of-xor 6 x y) (bit_of-xor 7 x y)
+bits_of-xor x y = let at = IsBitwise-xor.at in eight_same (at 0 x y) (at 1 x y) (at 2 x y) (at 3 x y) (at 4 x y) (at 5 x y) (at 6 x y) (at 7 x y)
 
 -- the byte of the sums of bits is the sum of the bytes
 digit-xor : (a b x y : ℕ) → a < 2 → b < 2 → bit_xor (a + 2 * x) (b + 2 * y) ≡ bit_xor a b + 2 * bit_xor x y

@@ -9,10 +9,10 @@ use lib.Dec.{T}
 use lib.Bits.{xor_assoc, xor_comm, xor_lt}
 use Rattle.aes_lanes.specs.Bytes.{xor_bytes}
 use Rattle.aes_lanes.specs.Field.{xtimes, partial_product, multiply}
-use Rattle.aes_lanes.specs.Rounds.{sum_of, column_product, shift_rows, mix_columns, inverse_shift_rows, add_round_key}
+use Rattle.aes_lanes.specs.Rounds.{sum_of, column_product, mix_columns, add_round_key}
 use Rattle.aes_lanes.specs.Laws.Field.{at_each, multiply-additive}
 use Rattle.aes_lanes.specs.Planes.{IsPlane, bit, byte_of, byte_at, block_of, lane_block, place}
-use Rattle.aes_lanes.proofs.PlaneBits.{IsPlane-sum, bit-sum, bits-lt, eight_same, eight_lt, byte_at-lt, range-agree, both_lanes, bits_of, on_bits, byte_of-xor}
+use Rattle.aes_lanes.proofs.PlaneBits.{IsPlane-sum, bit-sum, bits-lt, eight_of, eight_same, eight_lt, byte_at-lt, range-agree, both_lanes, bits_of, on_bits, byte_of-xor}
 
 -- the lanes of a vector in other places, as `swizzle` gives them
 abbrev pub moved : List ℕ → List ℕ → List ℕ
@@ -76,36 +76,30 @@ lane_block-moved places long below p0 p1 p2 p3 p4 p5 p6 p7 a b c d e f g h l k t
     at : (p : ℕ) (v : List ℕ) → p < 32 → IsPlane v → bit p k (moved places v) ≡ bit (get_or places p 0) k v
     at p v lt plane = bit-moved places long below p k v lt plane
 
--- the states whose rows are shifted, and shifted back
-lane_block-shift : (p0 p1 p2 p3 p4 p5 p6 p7 : List ℕ)
-    → IsPlane p0 → IsPlane p1 → IsPlane p2 → IsPlane p3 → IsPlane p4 → IsPlane p5 → IsPlane p6 → IsPlane p7 → (l b : ℕ) → l < 2
-    → lane_block (moved shift p0 ∷ moved shift p1 ∷ moved shift p2 ∷ moved shift p3 ∷ moved shift p4 ∷ moved shift p5 ∷ moved shift p6 ∷ moved shift p7 ∷ []) l b ≡ shift_rows (lane_block (p0 ∷ p1 ∷ p2 ∷ p3 ∷ p4 ∷ p5 ∷ p6 ∷ p7 ∷ []) l b)
-unfolding lane_block shift_rows
-lane_block-shift p0 p1 p2 p3 p4 p5 p6 p7 a b c d e f g h zero k two = lane_block-moved shift refl tt p0 p1 p2 p3 p4 p5 p6 p7 a b c d e f g h 0 k two
-lane_block-shift p0 p1 p2 p3 p4 p5 p6 p7 a b c d e f g h (suc zero) k two = lane_block-moved shift refl tt p0 p1 p2 p3 p4 p5 p6 p7 a b c d e f g h 1 k two
-lane_block-shift p0 p1 p2 p3 p4 p5 p6 p7 a b c d e f g h (suc (suc l)) k two = absurd (omega arith)
+-- what a function of states makes of a lane's bytes, where they come from other places
+abbrev pub MovesLane : List ℕ → (List ℕ → List ℕ) → ℕ → Type 0
+MovesLane places rows l =
+    (f : ℕ → ℕ) → map (λ j. f (get_or places (16 * l + place j) 0)) (range_with_len 0 16) ≡ rows (map (λ j. f (16 * l + place j)) (range_with_len 0 16))
 
-pub block_of-shift : (p0 p1 p2 p3 p4 p5 p6 p7 : List ℕ)
-    → IsPlane p0 → IsPlane p1 → IsPlane p2 → IsPlane p3 → IsPlane p4 → IsPlane p5 → IsPlane p6 → IsPlane p7 → (k : ℕ)
-    → block_of (moved shift p0 ∷ moved shift p1 ∷ moved shift p2 ∷ moved shift p3 ∷ moved shift p4 ∷ moved shift p5 ∷ moved shift p6 ∷ moved shift p7 ∷ []) k
-    ≡ shift_rows (block_of (p0 ∷ p1 ∷ p2 ∷ p3 ∷ p4 ∷ p5 ∷ p6 ∷ p7 ∷ []) k)
+lane_block-rows : (places : List ℕ) → length places ≡ 32 → T (all_below 32 places) → (rows : List ℕ → List ℕ) → MovesLane places rows 0 → MovesLane places rows 1
+    → (p0 p1 p2 p3 p4 p5 p6 p7 : List ℕ) → IsPlane p0 → IsPlane p1 → IsPlane p2 → IsPlane p3 → IsPlane p4 → IsPlane p5 → IsPlane p6 → IsPlane p7 → (l b : ℕ) → l < 2
+    → lane_block (moved places p0 ∷ moved places p1 ∷ moved places p2 ∷ moved places p3 ∷ moved places p4 ∷ moved places p5 ∷ moved places p6 ∷ moved places p7 ∷ []) l b
+    ≡ rows (lane_block (p0 ∷ p1 ∷ p2 ∷ p3 ∷ p4 ∷ p5 ∷ p6 ∷ p7 ∷ []) l b)
+unfolding lane_block
+lane_block-rows places long below rows first second p0 p1 p2 p3 p4 p5 p6 p7 a b c d e f g h zero k two =
+    lane_block-moved places long below p0 p1 p2 p3 p4 p5 p6 p7 a b c d e f g h 0 k two ∙ first (byte_at (p0 ∷ p1 ∷ p2 ∷ p3 ∷ p4 ∷ p5 ∷ p6 ∷ p7 ∷ []) k)
+lane_block-rows places long below rows first second p0 p1 p2 p3 p4 p5 p6 p7 a b c d e f g h (suc zero) k two =
+    lane_block-moved places long below p0 p1 p2 p3 p4 p5 p6 p7 a b c d e f g h 1 k two ∙ second (byte_at (p0 ∷ p1 ∷ p2 ∷ p3 ∷ p4 ∷ p5 ∷ p6 ∷ p7 ∷ []) k)
+lane_block-rows places long below rows first second p0 p1 p2 p3 p4 p5 p6 p7 a b c d e f g h (suc (suc l)) k two = absurd (omega arith)
+
+-- the blocks whose rows are shifted, or shifted back
+pub block_of-rows : (places : List ℕ) → length places ≡ 32 → T (all_below 32 places) → (rows : List ℕ → List ℕ) → MovesLane places rows 0 → MovesLane places rows 1
+    → (p0 p1 p2 p3 p4 p5 p6 p7 : List ℕ) → IsPlane p0 → IsPlane p1 → IsPlane p2 → IsPlane p3 → IsPlane p4 → IsPlane p5 → IsPlane p6 → IsPlane p7 → (k : ℕ)
+    → block_of (moved places p0 ∷ moved places p1 ∷ moved places p2 ∷ moved places p3 ∷ moved places p4 ∷ moved places p5 ∷ moved places p6 ∷ moved places p7 ∷ []) k
+    ≡ rows (block_of (p0 ∷ p1 ∷ p2 ∷ p3 ∷ p4 ∷ p5 ∷ p6 ∷ p7 ∷ []) k)
 unfolding block_of
-block_of-shift p0 p1 p2 p3 p4 p5 p6 p7 a b c d e f g h k = lane_block-shift p0 p1 p2 p3 p4 p5 p6 p7 a b c d e f g h (k % 2) (k / 2) (omega arith)
-
-lane_block-unshift : (p0 p1 p2 p3 p4 p5 p6 p7 : List ℕ)
-    → IsPlane p0 → IsPlane p1 → IsPlane p2 → IsPlane p3 → IsPlane p4 → IsPlane p5 → IsPlane p6 → IsPlane p7 → (l b : ℕ) → l < 2
-    → lane_block (moved unshift p0 ∷ moved unshift p1 ∷ moved unshift p2 ∷ moved unshift p3 ∷ moved unshift p4 ∷ moved unshift p5 ∷ moved unshift p6 ∷ moved unshift p7 ∷ []) l b ≡ inverse_shift_rows (lane_block (p0 ∷ p1 ∷ p2 ∷ p3 ∷ p4 ∷ p5 ∷ p6 ∷ p7 ∷ []) l b)
-unfolding lane_block inverse_shift_rows
-lane_block-unshift p0 p1 p2 p3 p4 p5 p6 p7 a b c d e f g h zero k two = lane_block-moved unshift refl tt p0 p1 p2 p3 p4 p5 p6 p7 a b c d e f g h 0 k two
-lane_block-unshift p0 p1 p2 p3 p4 p5 p6 p7 a b c d e f g h (suc zero) k two = lane_block-moved unshift refl tt p0 p1 p2 p3 p4 p5 p6 p7 a b c d e f g h 1 k two
-lane_block-unshift p0 p1 p2 p3 p4 p5 p6 p7 a b c d e f g h (suc (suc l)) k two = absurd (omega arith)
-
-pub block_of-unshift : (p0 p1 p2 p3 p4 p5 p6 p7 : List ℕ)
-    → IsPlane p0 → IsPlane p1 → IsPlane p2 → IsPlane p3 → IsPlane p4 → IsPlane p5 → IsPlane p6 → IsPlane p7 → (k : ℕ)
-    → block_of (moved unshift p0 ∷ moved unshift p1 ∷ moved unshift p2 ∷ moved unshift p3 ∷ moved unshift p4 ∷ moved unshift p5 ∷ moved unshift p6 ∷ moved unshift p7 ∷ []) k
-    ≡ inverse_shift_rows (block_of (p0 ∷ p1 ∷ p2 ∷ p3 ∷ p4 ∷ p5 ∷ p6 ∷ p7 ∷ []) k)
-unfolding block_of
-block_of-unshift p0 p1 p2 p3 p4 p5 p6 p7 a b c d e f g h k = lane_block-unshift p0 p1 p2 p3 p4 p5 p6 p7 a b c d e f g h (k % 2) (k / 2) (omega arith)
+block_of-rows places long below rows first second p0 p1 p2 p3 p4 p5 p6 p7 a b c d e f g h k =
+    lane_block-rows places long below rows first second p0 p1 p2 p3 p4 p5 p6 p7 a b c d e f g h (k % 2) (k / 2) (omega arith)
 
 -- the sum of two states, a bit at a time
 pub byte_at-sum : (s0 s1 s2 s3 s4 s5 s6 s7 t0 t1 t2 t3 t4 t5 t6 t7 : List ℕ)
@@ -248,7 +242,7 @@ four {w} {x} {y} {z} {w'} {x'} {y'} {z'} ew ex ey ez =
 module _ (p0 p1 p2 p3 p4 p5 p6 p7 : List ℕ)
     (a : IsPlane p0) (b : IsPlane p1) (c : IsPlane p2) (d : IsPlane p3) (e : IsPlane p4) (f : IsPlane p5) (g : IsPlane p6) (h : IsPlane p7) where
   abbrev old : List (List ℕ)
-  old = p0 ∷ p1 ∷ p2 ∷ p3 ∷ p4 ∷ p5 ∷ p6 ∷ p7 ∷ []
+  old = eight_of p0 p1 p2 p3 p4 p5 p6 p7
 
   abbrev new : List (List ℕ)
   new =

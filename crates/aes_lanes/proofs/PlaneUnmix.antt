@@ -9,7 +9,7 @@ use Rattle.aes_lanes.specs.Rounds.{sum_of, column_product, inverse_column_produc
 use Rattle.aes_lanes.specs.Laws.Field.{at_each, multiply-additive}
 use Rattle.aes_lanes.specs.Laws.Columns.{mixed-sum}
 use Rattle.aes_lanes.specs.Planes.{IsPlane, bit, byte_of, byte_at, block_of, lane_block, place}
-use Rattle.aes_lanes.proofs.PlaneBits.{bits-lt, eight_same, eight_lt, byte_at-lt, range-agree, bits_of, on_bits, byte_of-xor}
+use Rattle.aes_lanes.proofs.PlaneBits.{bits-lt, eight_of, eight_same, eight_lt, byte_at-lt, range-agree, bits_of, on_bits, byte_of-xor}
 use Rattle.aes_lanes.proofs.PlaneMoves.{moved, half_turn, second, four, sums-lt, IsPlane-moved, bit-moved}
 use Rattle.aes_lanes.proofs.Circuits.{Gate, sum, values, zeros, HasBit, HaveBits, HaveBits-more, HasBit-zeros, values-bits}
 
@@ -90,7 +90,7 @@ spread-column a b c d ha hb hc hd =
 module _ (p0 p1 p2 p3 p4 p5 p6 p7 : List ℕ)
     (a : IsPlane p0) (b : IsPlane p1) (c : IsPlane p2) (d : IsPlane p3) (e : IsPlane p4) (f : IsPlane p5) (g : IsPlane p6) (h : IsPlane p7) where
   abbrev old : List (List ℕ)
-  old = p0 ∷ p1 ∷ p2 ∷ p3 ∷ p4 ∷ p5 ∷ p6 ∷ p7 ∷ []
+  old = eight_of p0 p1 p2 p3 p4 p5 p6 p7
 
   abbrev given : List (List ℕ)
   given = p7 ∷ p6 ∷ p5 ∷ p4 ∷ p3 ∷ p2 ∷ p1 ∷ p0 ∷ moved half_turn p7 ∷ moved half_turn p6 ∷ moved half_turn p5 ∷ moved half_turn p4

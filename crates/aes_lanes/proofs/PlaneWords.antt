@@ -6,7 +6,7 @@ use Rattle.std.proofs.lemmas.Bool.{cases_eq}
 use Rattle.std.proofs.lemmas.Nat.{mod_below, shr-shr}
 use Rattle.std.proofs.lemmas.Simd.{Each1-chunk, Each1-from_get_or, get_or-chunk, get_or_wider, get_or_narrower}
 use Rattle.aes_lanes.specs.Planes.{IsPlane, bit, bit_of, byte_of, byte_at}
-use Rattle.aes_lanes.proofs.PlaneBits.{eight, eight_same}
+use Rattle.aes_lanes.proofs.PlaneBits.{eight, eight_of, eight_same}
 
 -- four words
 pub record AreWords (words : List ℕ) : Type 0 where
@@ -100,7 +100,7 @@ AreWords-set words n x are lt small = record {
 module _ (n : ℕ) (y0 y1 y2 y3 y4 y5 y6 y7 : List ℕ) (b0 b1 b2 b3 b4 b5 b6 b7 : ℕ) (lt : n < 4)
     (h0 : AreWords y0) (h1 : AreWords y1) (h2 : AreWords y2) (h3 : AreWords y3) (h4 : AreWords y4) (h5 : AreWords y5) (h6 : AreWords y6) (h7 : AreWords y7) where
   abbrev before : List (List ℕ)
-  before = y0 ∷ y1 ∷ y2 ∷ y3 ∷ y4 ∷ y5 ∷ y6 ∷ y7 ∷ []
+  before = eight_of y0 y1 y2 y3 y4 y5 y6 y7
 
   abbrev after : List (List ℕ)
   after = set y0 n b0 ∷ set y1 n b1 ∷ set y2 n b2 ∷ set y3 n b3 ∷ set y4 n b4 ∷ set y5 n b5 ∷ set y6 n b6 ∷ set y7 n b7 ∷ []

@@ -1,5 +1,6 @@
 -- The S-box by shuffles, lane by lane.
-use Rattle.std.proofs.Common.{◌≡◌, ℕ, ◌+◌, ◌*◌, ◌/◌, ◌^◌, ◌<◌, ◌||◌, true, T, leb, ltb, cond, List, map, length, get_or, replicate, bit_and, bit_xor, refl, sym, ap, subst, ◌∙◌, arith, w8}
+use Rattle.std.proofs.Common.{◌≡◌, ℕ, ◌+◌, ◌*◌, ◌/◌, ◌^◌, ◌<◌, ◌||◌, Bool, true, T, leb, ltb, cond, List, map, length, get_or, replicate, bit_and, bit_xor, refl, sym, ap, subst, ◌∙◌, arith, w8}
+use Rattle.std.specs.List.{range_with_len}
 use Rattle.std.specs.Simd.Lanes.{zip2}
 use Rattle.std.proofs.lemmas.List.{ext_get_or, get_or-map, length-map}
 use Rattle.std.proofs.lemmas.Simd.{Each1-from_get_or, SwzOk, SwzOk-from_Each1, get_or-swz_l, length-swz_l, map-map, swz_l, zip2_of_maps, zip2_splat}
@@ -24,15 +25,20 @@ look_is table js long =
     ∙ ap (λ (n : ℕ). cond (leb 128 (get_or js k 0)) 0 (get_or table n 0)) place
     ∙ sym (get_or-map (byte_from table) js k 0 0 within))
 
--- the values of a function of bytes, where each is a place
-places-map : (g : ℕ → ℕ) → ((x : ℕ) → x < 256 → (leb 128 (g x) || ltb (g x) 16) ≡ true)
+-- the numbers at which a shuffle looks
+abbrev is_place : ℕ → Bool
+is_place j = leb 128 j || ltb j 16
+
+-- the values of a function of bytes, where each is such a number
+pub places-map : (g : ℕ → ℕ) → map (λ x. is_place (g x)) (range_with_len 0 256) ≡ map (λ _. true) (range_with_len 0 256)
     → (v js : List ℕ) → IsBlock v → js ≡ map g v → ArePlaces js
 places-map g placed v js block e = record {
   sixteen = ap length e ∙ length-map v g ∙ block.sixteen;
   each = λ k lt.
       let within : k < length v = omega (arith, block.sixteen) in
       let is : get_or js k 0 ≡ g (get_or v k 0) = ap (λ l. get_or l k 0) e ∙ get_or-map g v k 0 0 within in
-      subst (λ (j : ℕ). T (leb 128 j || ltb j 16)) (sym is) (subst T (sym (placed (get_or v k 0) (block.bytes k))) tt);
+      let placed_here = at_each (λ x. is_place (g x)) (λ _. true) placed (get_or v k 0) (block.bytes k) in
+      subst (λ (j : ℕ). T (is_place j)) (sym is) (subst T (sym placed_here) tt);
 }
 
 -- what is looked up at values of a function
@@ -59,23 +65,14 @@ module _ (v : List ℕ) (block : IsBlock v) where
   pub both_are : zip2 bit_xor (lows v) (highs v) ≡ map both v
   both_are = zip2_of_maps bit_xor low_half high_half v lows_are highs_are
 
-  pub ArePlaces-lows : ArePlaces (lows v)
-  ArePlaces-lows = places-map low_half (at_each (λ x. leb 128 (low_half x) || ltb (low_half x) 16) (λ _. true) refl) v (lows v) block lows_are
-
-  pub ArePlaces-highs : ArePlaces (highs v)
-  ArePlaces-highs = places-map high_half (at_each (λ x. leb 128 (high_half x) || ltb (high_half x) 16) (λ _. true) refl) v (highs v) block highs_are
-
-  pub ArePlaces-both : ArePlaces (zip2 bit_xor (lows v) (highs v))
-  ArePlaces-both = places-map both (at_each (λ x. leb 128 (both x) || ltb (both x) 16) (λ _. true) refl) v (zip2 bit_xor (lows v) (highs v)) block both_are
-
 -- the places of an inverse, in steps
 abbrev share : ℕ → ℕ
 share x = byte_from SHARES (low_half x)
 
-abbrev of_high : ℕ → ℕ
+abbrev pub of_high : ℕ → ℕ
 of_high x = bit_xor (byte_from INVERSES (high_half x)) (share x)
 
-abbrev of_both : ℕ → ℕ
+abbrev pub of_both : ℕ → ℕ
 of_both x = bit_xor (byte_from INVERSES (both x)) (share x)
 
 module _ (v shares highest boths : List ℕ) (block : IsBlock v)
@@ -95,14 +92,6 @@ module _ (v shares highest boths : List ℕ) (block : IsBlock v)
       zip2_of_maps bit_xor (λ x. byte_from INVERSES (both x)) share v
       (looked INVERSES v (zip2 bit_xor (lows v) (highs v)) boths both (both_are v block) boths_are) share_is
 
-  pub ArePlaces-of_high : ArePlaces (zip2 bit_xor highest shares)
-  ArePlaces-of_high =
-      places-map of_high (at_each (λ x. leb 128 (of_high x) || ltb (of_high x) 16) (λ _. true) refl) v (zip2 bit_xor highest shares) block of_high_is
-
-  pub ArePlaces-of_both : ArePlaces (zip2 bit_xor boths shares)
-  ArePlaces-of_both =
-      places-map of_both (at_each (λ x. leb 128 (of_both x) || ltb (of_both x) 16) (λ _. true) refl) v (zip2 bit_xor boths shares) block of_both_is
-
   pub first_places : (first : List ℕ) → first ≡ map (byte_from INVERSES) (zip2 bit_xor highest shares)
       → zip2 bit_xor first (zip2 bit_xor (lows v) (highs v)) ≡ map (first_place INVERSES SHARES) v
   first_places first is =
@@ -115,46 +104,19 @@ module _ (v shares highest boths : List ℕ) (block : IsBlock v)
       zip2_of_maps bit_xor (λ x. byte_from INVERSES (of_both x)) high_half v
       (looked INVERSES v (zip2 bit_xor boths shares) second of_both of_both_is is) (highs_are v block)
 
--- the places for a byte, from its element
-module _ (low high : List ℕ)
-    (first_placed : (x : ℕ) → x < 256 → (leb 128 (first_place INVERSES SHARES (by_halves low high x)) || ltb (first_place INVERSES SHARES (by_halves low high x)) 16) ≡ true)
-    (second_placed : (x : ℕ) → x < 256 → (leb 128 (second_place INVERSES SHARES (by_halves low high x)) || ltb (second_place INVERSES SHARES (by_halves low high x)) 16) ≡ true)
-    (v element first second : List ℕ) (block : IsBlock v) (element_is : element ≡ map (by_halves low high) v)
-    (first_is : first ≡ map (first_place INVERSES SHARES) element) (second_is : second ≡ map (second_place INVERSES SHARES) element) where
-  pub first_of_byte : first ≡ map (λ x. first_place INVERSES SHARES (by_halves low high x)) v
-  first_of_byte = first_is ∙ ap (map (first_place INVERSES SHARES)) element_is ∙ map-map (first_place INVERSES SHARES) (by_halves low high) v
+-- the first or second place for a byte
+abbrev pub for_byte : (List ℕ → List ℕ → ℕ → ℕ) → List ℕ → List ℕ → ℕ → ℕ
+for_byte place low high x = place INVERSES SHARES (by_halves low high x)
 
-  pub second_of_byte : second ≡ map (λ x. second_place INVERSES SHARES (by_halves low high x)) v
-  second_of_byte = second_is ∙ ap (map (second_place INVERSES SHARES)) element_is ∙ map-map (second_place INVERSES SHARES) (by_halves low high) v
-
-  pub ArePlaces-first : ArePlaces first
-  ArePlaces-first = places-map (λ x. first_place INVERSES SHARES (by_halves low high x)) first_placed v first block first_of_byte
-
-  pub ArePlaces-second : ArePlaces second
-  ArePlaces-second = places-map (λ x. second_place INVERSES SHARES (by_halves low high x)) second_placed v second block second_of_byte
-
--- the two tables of a byte's element
-pub sbox-first_placed : (x : ℕ) → x < 256
-    → (leb 128 (first_place INVERSES SHARES (by_halves BASIS_LOW BASIS_HIGH x)) || ltb (first_place INVERSES SHARES (by_halves BASIS_LOW BASIS_HIGH x)) 16) ≡ true
-sbox-first_placed = at_each _ (λ _. true) refl
-
-pub sbox-second_placed : (x : ℕ) → x < 256
-    → (leb 128 (second_place INVERSES SHARES (by_halves BASIS_LOW BASIS_HIGH x)) || ltb (second_place INVERSES SHARES (by_halves BASIS_LOW BASIS_HIGH x)) 16) ≡ true
-sbox-second_placed = at_each _ (λ _. true) refl
-
-pub unsbox-first_placed : (x : ℕ) → x < 256
-    → (leb 128 (first_place INVERSES SHARES (by_halves UNMAPPED_LOW UNMAPPED_HIGH x)) || ltb (first_place INVERSES SHARES (by_halves UNMAPPED_LOW UNMAPPED_HIGH x)) 16) ≡ true
-unsbox-first_placed = at_each _ (λ _. true) refl
-
-pub unsbox-second_placed : (x : ℕ) → x < 256
-    → (leb 128 (second_place INVERSES SHARES (by_halves UNMAPPED_LOW UNMAPPED_HIGH x)) || ltb (second_place INVERSES SHARES (by_halves UNMAPPED_LOW UNMAPPED_HIGH x)) 16) ≡ true
-unsbox-second_placed = at_each _ (λ _. true) refl
+-- the places for some bytes, from those for their elements
+pub of_bytes : (low high : List ℕ) (place : ℕ → ℕ) (v element places : List ℕ) → element ≡ map (by_halves low high) v → places ≡ map place element
+    → places ≡ map (λ x. place (by_halves low high x)) v
+of_bytes low high place v element places element_is places_are = places_are ∙ ap (map place) element_is ∙ map-map place (by_halves low high) v
 
 -- the S-boxes as the shuffles make them
 unfoldable pub shuffled_sbox : ℕ → ℕ
 shuffled_sbox x =
-    bit_xor (bit_xor (byte_from SBOX_FIRST (first_place INVERSES SHARES (by_halves BASIS_LOW BASIS_HIGH x)))
-    (byte_from SBOX_SECOND (second_place INVERSES SHARES (by_halves BASIS_LOW BASIS_HIGH x)))) 0x63
+    bit_xor (bit_xor (byte_from SBOX_FIRST (for_byte first_place BASIS_LOW BASIS_HIGH x)) (byte_from SBOX_SECOND (for_byte second_place BASIS_LOW BASIS_HIGH x))) 0x63
 
 pub shuffled_sbox-is : (x : ℕ) → x < 256 → shuffled_sbox x ≡ sbox x
 unfolding shuffled_sbox inverses inverse_by_table affine_map sbox_by_table
@@ -162,8 +124,7 @@ shuffled_sbox-is x h = at_each shuffled_sbox sbox_by_table refl x h ∙ sym (sbo
 
 unfoldable pub shuffled_inverse_sbox : ℕ → ℕ
 shuffled_inverse_sbox x =
-    bit_xor (byte_from INVERSE_FIRST (first_place INVERSES SHARES (by_halves UNMAPPED_LOW UNMAPPED_HIGH x)))
-    (byte_from INVERSE_SECOND (second_place INVERSES SHARES (by_halves UNMAPPED_LOW UNMAPPED_HIGH x)))
+    bit_xor (byte_from INVERSE_FIRST (for_byte first_place UNMAPPED_LOW UNMAPPED_HIGH x)) (byte_from INVERSE_SECOND (for_byte second_place UNMAPPED_LOW UNMAPPED_HIGH x))
 
 pub shuffled_inverse_sbox-is : (x : ℕ) → x < 256 → shuffled_inverse_sbox x ≡ inverse_sbox x
 unfolding shuffled_inverse_sbox inverses inverse_by_table inverse_affine_map inverse_sbox_by_table

@@ -1,8 +1,11 @@
--- Words of private contracts: a block added to a part of a list of bytes, the key of a schedule, and the lanes of a
--- vector.
+-- Words of private contracts: a block added to a part of a list of bytes, the key of a schedule, the lanes of a vector,
+-- and a cipher in either direction.
 use Rattle.std.specs.Prelude.{◌≡◌, ℕ, ◌+◌, ◌*◌, ◌<◌, ◌≤◌, length, take, List, [], bit_xor, get_or, slice_index}
 use Rattle.std.specs.List.{flat_map}
 use Rattle.std.specs.Int.{w32, to_be_bytes}
+use Rattle.aes_lanes.specs.declared.direction.Direction.{Direction}
+use Rattle.aes_lanes.specs.declared.direction.Direction.TheVariants.{Forward, Backward}
+use Rattle.aes_lanes.specs.Cipher.{cipher, inverse_cipher}
 
 -- bytes to which a block was added from a place on, as far as they go
 pub record IsXoredAt (at : ℕ) (block old new : List ℕ) : Type 0 where
@@ -28,3 +31,8 @@ key_of n words = flat_map (to_be_bytes w32) (take n words)
 pub record AreLanes (v : List ℕ) : Type 0 where
   pub sixty_four : length v ≡ 64
   pub bytes : (k : ℕ) → slice_index v k < 256
+
+-- what so many rounds make of a block in a direction, with the words of a key schedule
+abbrev pub ciphered : Direction → ℕ → List ℕ → List ℕ → List ℕ
+ciphered Forward = cipher
+ciphered Backward = inverse_cipher

@@ -5,9 +5,10 @@ ghost use Rattle.std.specs.Prelude.{◌≡◌};
 use crate::block::Block;
 use crate::cipher::Cipher;
 use crate::counter::ctr32_under;
+use crate::direction::Direction;
 use crate::plane_rounds::{counter_images, expand_planes};
 use crate::planes::{Planes, no_planes};
-use crate::rounds::{decrypt_all, encrypt_all};
+use crate::rounds::cipher_all;
 use crate::schedule::{expand_blocks, expand_key};
 use std::marker::Model;
 
@@ -69,11 +70,11 @@ impl Cipher for Key128 {
     ghost undone = { aes-undone 4 };
 
     fn encrypt_blocks(&self, blocks: &mut [Block]) {
-        encrypt_all(&self.blocks, &self.planes, 10, blocks);
+        cipher_all(Direction::Forward, &self.blocks, &self.planes, 10, blocks);
     }
 
     fn decrypt_blocks(&self, blocks: &mut [Block]) {
-        decrypt_all(&self.blocks, &self.planes, 10, blocks);
+        cipher_all(Direction::Backward, &self.blocks, &self.planes, 10, blocks);
     }
 
     fn ctr32_xor(&self, start: &Block, bytes: &mut [u8]) {
@@ -152,11 +153,11 @@ impl Cipher for Key256 {
     ghost undone = { aes-undone 8 };
 
     fn encrypt_blocks(&self, blocks: &mut [Block]) {
-        encrypt_all(&self.blocks, &self.planes, 14, blocks);
+        cipher_all(Direction::Forward, &self.blocks, &self.planes, 14, blocks);
     }
 
     fn decrypt_blocks(&self, blocks: &mut [Block]) {
-        decrypt_all(&self.blocks, &self.planes, 14, blocks);
+        cipher_all(Direction::Backward, &self.blocks, &self.planes, 14, blocks);
     }
 
     fn ctr32_xor(&self, start: &Block, bytes: &mut [u8]) {

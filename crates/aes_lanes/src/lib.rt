@@ -7,6 +7,7 @@ mod block;
 mod cipher;
 mod counter;
 mod counter_planes;
+mod direction;
 mod gates;
 mod key;
 pub mod lanes;

@@ -8,10 +8,12 @@ ghost use Rattle.aes_lanes.specs.Counter.{increment32};
 ghost use Rattle.aes_lanes.specs.Field.{inverse_affine_map};
 ghost use Rattle.aes_lanes.specs.Planes.{block_of, byte_at};
 ghost use Rattle.aes_lanes.specs.PlaneList.{AreRoundKeys, list_of, plane_key, sixty_threes};
+ghost use Rattle.aes_lanes.specs.Private.{ciphered};
 ghost use Rattle.aes_lanes.specs.Rounds.{add_round_key, inverse_mix_columns, inverse_shift_rows, inverse_sub_bytes, mix_columns, shift_rows, sub_bytes};
 
 use crate::block::Block;
 use crate::counter_planes::counter_planes;
+use crate::direction::Direction;
 use crate::gates::gates;
 use crate::plane_blocks::{gather, gather_same, scatter};
 use crate::planes::Planes;
@@ -307,34 +309,6 @@ pub(crate) fn counter_images(keys: &[Planes], rounds: usize, counter: &Block) ->
     scatter(&encrypted(keys, rounds, &counter_planes(counter)))
 }
 
-/// Replaces the sixteen blocks from place `at` on by their images in so many rounds, under round keys as planes.
-pub(crate) fn encrypt_at(keys: &[Planes], rounds: usize, blocks: &mut [Block], at: usize)
-    requires some { 0 < rounds }
-    requires keys { length keys.now ≡ rounds + 1 }
-    requires within { at + 16 ≤ length blocks.old }
-    ensures { (words : List ℕ) → AreRoundKeys words keys.now
-        → blocks.new ≡ take at blocks.old ++ (map (cipher rounds words) (take 16 (drop at blocks.old)) ++ drop (at + 16) blocks.old) }
-{
-    let mut sixteen = [[0; 16]; 16];
-    sixteen.copy_from_slice(&blocks[at..at + 16]);
-    encrypt_sixteen(keys, rounds, &mut sixteen);
-    blocks[at..at + 16].copy_from_slice(&sixteen);
-}
-
-/// Replaces at most sixteen blocks by their images in so many rounds, under round keys as planes, in the time of sixteen.
-pub(crate) fn encrypt_few(keys: &[Planes], rounds: usize, blocks: &mut [Block])
-    requires some { 0 < rounds }
-    requires keys { length keys.now ≡ rounds + 1 }
-    requires few { length blocks.old ≤ 16 }
-    ensures { (words : List ℕ) → AreRoundKeys words keys.now → blocks.new ≡ map (cipher rounds words) blocks.old }
-{
-    let count = blocks.len();
-    let mut sixteen = [[0; 16]; 16];
-    sixteen[..count].copy_from_slice(blocks);
-    encrypt_sixteen(keys, rounds, &mut sixteen);
-    blocks.copy_from_slice(&sixteen[..count]);
-}
-
 // Replaces sixteen blocks by their preimages in so many rounds, under round keys as planes.
 fn decrypt_sixteen(keys: &[Planes], rounds: usize, blocks: &mut [Block; 16])
     requires some { 0 < rounds }
@@ -350,30 +324,48 @@ fn decrypt_sixteen(keys: &[Planes], rounds: usize, blocks: &mut [Block; 16])
     *blocks = scatter(&add(&unsub(&unshift(&state)), &keys[0]));
 }
 
-/// Replaces the sixteen blocks from place `at` on by their preimages in so many rounds, under round keys as planes.
-pub(crate) fn decrypt_at(keys: &[Planes], rounds: usize, blocks: &mut [Block], at: usize)
+// Replaces sixteen blocks by what so many rounds make of them in a direction, under round keys as planes.
+fn cipher_sixteen(direction: Direction, keys: &[Planes], rounds: usize, blocks: &mut [Block; 16])
+    requires some { 0 < rounds }
+    requires keys { length keys.now ≡ rounds + 1 }
+    ensures { (words : List ℕ) → AreRoundKeys words keys.now → blocks.new ≡ map (ciphered direction rounds words) blocks.old }
+{
+    match direction {
+        Direction::Forward => encrypt_sixteen(keys, rounds, blocks),
+        Direction::Backward => decrypt_sixteen(keys, rounds, blocks),
+    }
+}
+
+/// Replaces the sixteen blocks from place `at` on by what so many rounds make of them in a direction, under round keys as planes.
+pub(crate) fn cipher_at(
+    direction: Direction,
+    keys: &[Planes],
+    rounds: usize,
+    blocks: &mut [Block],
+    at: usize,
+)
     requires some { 0 < rounds }
     requires keys { length keys.now ≡ rounds + 1 }
     requires within { at + 16 ≤ length blocks.old }
     ensures { (words : List ℕ) → AreRoundKeys words keys.now
-        → blocks.new ≡ take at blocks.old ++ (map (inverse_cipher rounds words) (take 16 (drop at blocks.old)) ++ drop (at + 16) blocks.old) }
+        → blocks.new ≡ take at blocks.old ++ (map (ciphered direction rounds words) (take 16 (drop at blocks.old)) ++ drop (at + 16) blocks.old) }
 {
     let mut sixteen = [[0; 16]; 16];
     sixteen.copy_from_slice(&blocks[at..at + 16]);
-    decrypt_sixteen(keys, rounds, &mut sixteen);
+    cipher_sixteen(direction, keys, rounds, &mut sixteen);
     blocks[at..at + 16].copy_from_slice(&sixteen);
 }
 
-/// Replaces at most sixteen blocks by their preimages in so many rounds, under round keys as planes, in the time of sixteen.
-pub(crate) fn decrypt_few(keys: &[Planes], rounds: usize, blocks: &mut [Block])
+/// Replaces at most sixteen blocks by what so many rounds make of them in a direction, under round keys as planes, in the time of sixteen.
+pub(crate) fn cipher_few(direction: Direction, keys: &[Planes], rounds: usize, blocks: &mut [Block])
     requires some { 0 < rounds }
     requires keys { length keys.now ≡ rounds + 1 }
     requires few { length blocks.old ≤ 16 }
-    ensures { (words : List ℕ) → AreRoundKeys words keys.now → blocks.new ≡ map (inverse_cipher rounds words) blocks.old }
+    ensures { (words : List ℕ) → AreRoundKeys words keys.now → blocks.new ≡ map (ciphered direction rounds words) blocks.old }
 {
     let count = blocks.len();
     let mut sixteen = [[0; 16]; 16];
     sixteen[..count].copy_from_slice(blocks);
-    decrypt_sixteen(keys, rounds, &mut sixteen);
+    cipher_sixteen(direction, keys, rounds, &mut sixteen);
     blocks.copy_from_slice(&sixteen[..count]);
 }

@@ -6,9 +6,11 @@ ghost use Rattle.aes_lanes.specs.Rounds.{inverse_mix_columns, inverse_shift_rows
 ghost use Rattle.aes_lanes.specs.PlaneList.{AreRoundKeys};
 ghost use Rattle.aes_lanes.specs.RoundKeys.{AreKeyBlocks};
 ghost use Rattle.aes_lanes.specs.Cipher.{cipher, inverse_cipher};
+ghost use Rattle.aes_lanes.specs.Private.{ciphered};
 
 use crate::block::Block;
-use crate::plane_rounds::{decrypt_at, decrypt_few, encrypt_at, encrypt_few};
+use crate::direction::Direction;
+use crate::plane_rounds::{cipher_at, cipher_few};
 use crate::planes::Planes;
 use crate::shuffles::{sub, unsub};
 use std::simd::prelude::*;
@@ -106,89 +108,71 @@ fn decrypt_block(keys: &[Block], rounds: usize, block: &mut Block)
     *block = last.to_array();
 }
 
-// Replaces each block by its image in so many rounds, one after the other.
-fn encrypt_singly(keys: &[Block], rounds: usize, blocks: &mut [Block])
+// Replaces a block by what so many rounds make of it in a direction, under round keys as blocks.
+fn cipher_block(direction: Direction, keys: &[Block], rounds: usize, block: &mut Block)
     requires some { 0 < rounds }
     requires keys { length keys.now ≡ rounds + 1 }
-    ensures { (words : List ℕ) → AreKeyBlocks words keys.now → blocks.new ≡ map (cipher rounds words) blocks.old }
+    ensures { (words : List ℕ) → AreKeyBlocks words keys.now → block.new ≡ ciphered direction rounds words block.old }
 {
-    for i in 0..blocks.len() {
-        encrypt_block(keys, rounds, &mut blocks[i]);
+    match direction {
+        Direction::Forward => encrypt_block(keys, rounds, block),
+        Direction::Backward => decrypt_block(keys, rounds, block),
     }
 }
 
-// Replaces each block by its preimage in so many rounds, one after the other.
-fn decrypt_singly(keys: &[Block], rounds: usize, blocks: &mut [Block])
+// Replaces each block by what so many rounds make of it in a direction, one after the other.
+fn cipher_singly(direction: Direction, keys: &[Block], rounds: usize, blocks: &mut [Block])
     requires some { 0 < rounds }
     requires keys { length keys.now ≡ rounds + 1 }
-    ensures { (words : List ℕ) → AreKeyBlocks words keys.now → blocks.new ≡ map (inverse_cipher rounds words) blocks.old }
+    ensures { (words : List ℕ) → AreKeyBlocks words keys.now → blocks.new ≡ map (ciphered direction rounds words) blocks.old }
 {
     for i in 0..blocks.len() {
-        decrypt_block(keys, rounds, &mut blocks[i]);
+        cipher_block(direction, keys, rounds, &mut blocks[i]);
     }
 }
 
 // Up to so many blocks take less time one after the other than at once.
 const FEW: usize = 6;
 
-// Replaces at most sixteen blocks by their images in so many rounds, under round keys as blocks and as planes.
-fn encrypt_rest(keys: &[Block], planes: &[Planes], rounds: usize, blocks: &mut [Block])
+// Replaces at most sixteen blocks by what so many rounds make of them in a direction, under round keys as blocks and as planes.
+fn cipher_rest(
+    direction: Direction,
+    keys: &[Block],
+    planes: &[Planes],
+    rounds: usize,
+    blocks: &mut [Block],
+)
     requires some { 0 < rounds }
     requires keys { length keys.now ≡ rounds + 1 }
     requires planes { length planes.now ≡ rounds + 1 }
     requires sixteen { length blocks.old ≤ 16 }
     ensures { (words : List ℕ) → AreKeyBlocks words keys.now → AreRoundKeys words planes.now
-        → blocks.new ≡ map (cipher rounds words) blocks.old }
+        → blocks.new ≡ map (ciphered direction rounds words) blocks.old }
 {
     if blocks.len() <= FEW {
-        encrypt_singly(keys, rounds, blocks);
+        cipher_singly(direction, keys, rounds, blocks);
     } else {
-        encrypt_few(planes, rounds, blocks);
+        cipher_few(direction, planes, rounds, blocks);
     }
 }
 
-// Replaces at most sixteen blocks by their preimages in so many rounds, under round keys as blocks and as planes.
-fn decrypt_rest(keys: &[Block], planes: &[Planes], rounds: usize, blocks: &mut [Block])
-    requires some { 0 < rounds }
-    requires keys { length keys.now ≡ rounds + 1 }
-    requires planes { length planes.now ≡ rounds + 1 }
-    requires sixteen { length blocks.old ≤ 16 }
-    ensures { (words : List ℕ) → AreKeyBlocks words keys.now → AreRoundKeys words planes.now
-        → blocks.new ≡ map (inverse_cipher rounds words) blocks.old }
-{
-    if blocks.len() <= FEW {
-        decrypt_singly(keys, rounds, blocks);
-    } else {
-        decrypt_few(planes, rounds, blocks);
-    }
-}
-
-/// Replaces each block by its image in so many rounds, under round keys as blocks and as planes.
-pub(crate) fn encrypt_all(keys: &[Block], planes: &[Planes], rounds: usize, blocks: &mut [Block])
+/// Replaces each block by what so many rounds make of it in a direction, under round keys as blocks and as planes.
+pub(crate) fn cipher_all(
+    direction: Direction,
+    keys: &[Block],
+    planes: &[Planes],
+    rounds: usize,
+    blocks: &mut [Block],
+)
     requires some { 0 < rounds }
     requires keys { length keys.now ≡ rounds + 1 }
     requires planes { length planes.now ≡ rounds + 1 }
     ensures { (words : List ℕ) → AreKeyBlocks words keys.now → AreRoundKeys words planes.now
-        → blocks.new ≡ map (cipher rounds words) blocks.old }
+        → blocks.new ≡ map (ciphered direction rounds words) blocks.old }
 {
     let sets = blocks.len() / 16;
     for set in 0..sets {
-        encrypt_at(planes, rounds, blocks, 16 * set);
+        cipher_at(direction, planes, rounds, blocks, 16 * set);
     }
-    encrypt_rest(keys, planes, rounds, &mut blocks[16 * sets..]);
-}
-
-/// Replaces each block by its preimage in so many rounds, under round keys as blocks and as planes.
-pub(crate) fn decrypt_all(keys: &[Block], planes: &[Planes], rounds: usize, blocks: &mut [Block])
-    requires some { 0 < rounds }
-    requires keys { length keys.now ≡ rounds + 1 }
-    requires planes { length planes.now ≡ rounds + 1 }
-    ensures { (words : List ℕ) → AreKeyBlocks words keys.now → AreRoundKeys words planes.now
-        → blocks.new ≡ map (inverse_cipher rounds words) blocks.old }
-{
-    let sets = blocks.len() / 16;
-    for set in 0..sets {
-        decrypt_at(planes, rounds, blocks, 16 * set);
-    }
-    decrypt_rest(keys, planes, rounds, &mut blocks[16 * sets..]);
+    cipher_rest(direction, keys, planes, rounds, &mut blocks[16 * sets..]);
 }

@@ -1,14 +1,14 @@
-use Rattle.std.proofs.Common.{bit_xor}
+use Rattle.std.proofs.Common.{bit_xor, refl}
 use Rattle.std.proofs.lemmas.Simd.{zip2_of_maps}
 use Rattle.aes_lanes.specs.Shuffles.{byte_from, high_half, low_half}
-use Rattle.aes_lanes.proofs.ShuffleSteps.{ArePlaces-highs, ArePlaces-lows, highs, highs_are, looked, lows, lows_are}
+use Rattle.aes_lanes.proofs.ShuffleSteps.{highs, highs_are, looked, lows, lows_are, places-map}
 use Rattle.aes_lanes.proofs.shuffles.by_halves.Goals as goal
 
 pub look-low_bytes-requires : goal.look-low_bytes-requires
-look-low_bytes-requires c = ArePlaces-lows c.args.v c.requires
+look-low_bytes-requires c = places-map low_half refl c.args.v _ c.requires (lows_are c.args.v c.requires)
 
 pub look-high_bytes-requires : goal.look-high_bytes-requires
-look-high_bytes-requires c = ArePlaces-highs c.args.v c.requires
+look-high_bytes-requires c = places-map high_half refl c.args.v _ c.requires (highs_are c.args.v c.requires)
 
 pub returns : goal.returns
 returns c =

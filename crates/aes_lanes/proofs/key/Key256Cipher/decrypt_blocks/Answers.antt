@@ -5,5 +5,5 @@ use Rattle.aes_lanes.proofs.key.Key256Cipher.decrypt_blocks.Goals as goal
 pub returns : goal.returns
 unfolding inverse_aes
 returns c =
-    c.decrypt_all.ensures _ c.self.invariant.blocks c.self.invariant.planes
+    c.cipher_all.ensures _ c.self.invariant.blocks c.self.invariant.planes
     ∙ ap (λ words. map (inverse_cipher 14 words) c.args.blocks.now) (c.self.invariant.schedule ∙ ap (key_schedule 8) c.self.view_is)

@@ -1,8 +1,8 @@
 use Rattle.std.proofs.Common.{◌≡◌, ◌*◌, ◌++◌, List, ℕ, take, drop, map}
-use Rattle.aes_lanes.specs.Cipher.{inverse_cipher}
+use Rattle.aes_lanes.specs.Private.{ciphered}
 use Rattle.aes_lanes.specs.PlaneList.{AreRoundKeys}
-use Rattle.aes_lanes.proofs.rounds.decrypt_all.Given as goal
+use Rattle.aes_lanes.proofs.rounds.cipher_all.Given as goal
 
 abbrev pub invariant-loop-set : goal.invariant-loop-set
 invariant-loop-set l = (words : List ℕ) → AreRoundKeys words l.planes
-    → l.blocks ≡ map (inverse_cipher l.rounds words) (take (16 * l.set) l.initial.blocks) ++ drop (16 * l.set) l.initial.blocks
+    → l.blocks ≡ map (ciphered l.direction l.rounds words) (take (16 * l.set) l.initial.blocks) ++ drop (16 * l.set) l.initial.blocks

@@ -1,8 +1,0 @@
-use Rattle.std.proofs.Common.{◌≡◌, ◌*◌, ◌++◌, List, ℕ, take, drop, map}
-use Rattle.aes_lanes.specs.Cipher.{cipher}
-use Rattle.aes_lanes.specs.PlaneList.{AreRoundKeys}
-use Rattle.aes_lanes.proofs.rounds.encrypt_all.Given as goal
-
-abbrev pub invariant-loop-set : goal.invariant-loop-set
-invariant-loop-set l = (words : List ℕ) → AreRoundKeys words l.planes
-    → l.blocks ≡ map (cipher l.rounds words) (take (16 * l.set) l.initial.blocks) ++ drop (16 * l.set) l.initial.blocks

@@ -1,8 +1,0 @@
-use Rattle.std.proofs.Common.{◌≡◌, ◌++◌, List, ℕ, take, drop, map}
-use Rattle.aes_lanes.specs.Cipher.{cipher}
-use Rattle.aes_lanes.specs.RoundKeys.{AreKeyBlocks}
-use Rattle.aes_lanes.proofs.rounds.encrypt_singly.Given as goal
-
-abbrev pub invariant-loop-i : goal.invariant-loop-i
-invariant-loop-i l = (words : List ℕ) → AreKeyBlocks words l.keys
-    → l.blocks ≡ map (cipher l.rounds words) (take l.i l.initial.blocks) ++ drop l.i l.initial.blocks

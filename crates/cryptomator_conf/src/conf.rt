@@ -7,7 +7,7 @@ use kdf_suite::ScryptCost;
 use vault_values::Bytes;
 
 /// What `masterkey.cryptomator` says.
-#[derive(PartialEq, Eq, Drop)]
+#[derive(Drop)]
 pub struct MasterFile {
     /// The salt of scrypt, of any length.
     pub salt: Bytes,
@@ -71,7 +71,7 @@ pub struct CmDraw {
 }
 
 /// New files: `masterkey.cryptomator` and `vault.cryptomator`.
-#[derive(PartialEq, Eq, Drop)]
+#[derive(Drop)]
 pub struct CmFiles {
     pub master: Bytes,
     pub vault: Bytes,

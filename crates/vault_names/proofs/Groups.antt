@@ -59,12 +59,9 @@ unfolding base32
 length-base32 bytes =
     length-flat (first_chunks 5 (length bytes / 5) bytes) ∙ ap (λ n. 8 * n) (length-first_chunks 5 (length bytes / 5) bytes)
 
-small-base32 : (c : ℕ) → is_base32 c ≡ true → c < 128
-small-base32 c is = grind (arith, nat_tests)
-
 ascii-base32 : (text : List ℕ) → list_all is_base32 text ≡ true → IsAscii text
 ascii-base32 [] are k = lit< tt
-ascii-base32 (c ∷ text) are zero = small-base32 c (and_parts _ _ are).0
+ascii-base32 (c ∷ text) are zero = let is : is_base32 c ≡ true = (and_parts _ _ are).0 in grind (arith, nat_tests)
 ascii-base32 (c ∷ text) are (suc k) = ascii-base32 text (and_parts (is_base32 c) (list_all is_base32 text) are).1 k
 
 pub utf8-base32 : (bytes : List ℕ) → IsUtf8 (base32 bytes)

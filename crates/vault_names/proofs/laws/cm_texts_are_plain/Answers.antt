@@ -1,10 +1,7 @@
 use Rattle.std.proofs.Common.{[], ◌∷◌}
-use Rattle.std.proofs.lemmas.List.Elements.{All-nil, All-cons}
 use Rattle.aes_lanes.specs.Cipher.{aes256}
-use Rattle.base64.specs.GeneralPurpose.{IsBytes}
 use Rattle.vault_names.proofs.Characters.{IsOfAlphabet}
-use Rattle.vault_names.proofs.CmNames.{images}
-use Rattle.vault_names.proofs.Encryption.{IsBytes-name}
+use Rattle.vault_names.proofs.CmNames.{images, sealed-bytes}
 use Rattle.vault_names.proofs.Plain.{length-cm_text, plain-cm_text}
 use Rattle.vault_names.proofs.laws.cm_texts_are_plain.Goals as goal
 
@@ -17,6 +14,5 @@ returns c =
       size = λ keys id name. length-cm_text alphabet keys id name
           (c.unsealing_undoes_sealing.ensures.longer (aes256 keys.mac) (aes256 keys.enc) (is_image keys.mac) (is_image keys.enc) (id ∷ []) name);
       characters = λ keys id name id_bytes named. plain-cm_text alphabet keys id name
-          (c.sealed_texts_are_bytes.ensures (aes256 keys.mac) (aes256 keys.enc) (is_image keys.mac) (is_image keys.enc) (id ∷ []) name
-          (All-cons IsBytes id [] id_bytes (All-nil IsBytes)) (IsBytes-name name named));
+          (sealed-bytes c.directions_undo_each_other.ensures c.sealed_texts_are_bytes.ensures keys id name id_bytes named);
     }

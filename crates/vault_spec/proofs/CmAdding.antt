@@ -24,7 +24,7 @@ use Rattle.vault_spec.proofs.Grafts.{reached_right, nothing_below, edited_adds, 
 use Rattle.vault_spec.proofs.PathEnds.{child-both}
 use Rattle.vault_spec.proofs.Places.{SparesAll, IsNoEntry, IsRooted, leads_from_root, IsSide, brought, brought_there, arrived, IsNew, new_after_side, Arrives, file_folders, folder_folders}
 use Rattle.vault_spec.proofs.MadeItems.{HasOwnFolder, IsMade, MakesItems}
-use Rattle.vault_spec.proofs.CmVault.{cm_lawful}
+use Rattle.vault_spec.proofs.CmVault.{cm_lawful, OfEachCm}
 
 -- the folder of a reached directory has three parts, and an entry in it four
 pub three_parts : (vault : CmVault) (texts : CmTexts vault.keys) (v : View) (path : plain.Path) (dir : Directory) → Leads (cm_format vault) v path dir → length dir.folder ≡ 3
@@ -428,5 +428,5 @@ directory_made vault texts v front dir name id folders leads named is_id none =
     new : IsNew (cm_format vault) v front dir name (directory_at vault dir name id)
     new = new_at vault texts v front dir name id folders leads named none
 
-pub cm_makes : (vault : CmVault) (texts : CmTexts vault.keys) → MakesItems (cm_format vault) (cm_lawful vault texts)
+pub cm_makes : OfEachCm MakesItems
 cm_makes vault texts = record { file = file_made vault texts; directory = directory_made vault texts }

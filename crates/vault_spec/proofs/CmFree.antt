@@ -20,7 +20,7 @@ use Rattle.vault_spec.specs.Tidy.{IsTidy, OwnPlacesAreFree}
 use Rattle.vault_spec.specs.Vault.{Cryptomator}
 use Rattle.vault_spec.proofs.Entries.{differ, IsShortOrLong, entry_is}
 use Rattle.vault_spec.proofs.FreePlaces.{OfNoItem, KnowsEntries, entry_free}
-use Rattle.vault_spec.proofs.CmVault.{cm_lawful}
+use Rattle.vault_spec.proofs.CmVault.{cm_lawful, OfEachCm}
 use Rattle.vault_spec.proofs.CmKeeping.{shelf_text, folder_is}
 
 pub nothing_there : (long : Bool) (v : View) (x : Found) → cm_item_of long v x ≡ Nothing → x ≡ NoEntry
@@ -84,7 +84,7 @@ not_fixed keys texts threshold id name = by_form (entry_is cm_long_name threshol
     by_form (inr long) = ap (λ (s : Stored). bytes_eq s.name (codes "dirid.c9r") || false) long
         ∙ by_size (cm_long_name (cm_text keys id name)) (λ nine. let size : ◌≡◌ {A = ℕ} 32 9 = sym (texts.long_size (cm_text keys id name)) ∙ nine in cc)
 
-cm_entries : (vault : CmVault) (texts : CmTexts vault.keys) → KnowsEntries (cm_format vault) (cm_lawful vault texts)
+cm_entries : OfEachCm KnowsEntries
 unfolding cm_stored
 cm_entries vault texts = record {
   nothing = λ long v is. nothing_there long v (v []) is;

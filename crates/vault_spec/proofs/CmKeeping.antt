@@ -26,7 +26,7 @@ use Rattle.vault_spec.proofs.Grafts.{reached_right}
 use Rattle.vault_spec.proofs.Places.{orderly_is_rooted, IsSide, side_looks, side_orderly, brought, brought_there, IsNew, new_after_side}
 use Rattle.vault_spec.proofs.StaysClean.{IsBare, IsApart, KeepEach, KeepsItems, HasPlace}
 use Rattle.vault_spec.proofs.Keeping.{free_is_apart, apart_on, side_keeps, BringsWhole, item_keeps, file_brings}
-use Rattle.vault_spec.proofs.CmVault.{cm_lawful, no_role_of_nothing}
+use Rattle.vault_spec.proofs.CmVault.{cm_lawful, no_role_of_nothing, OfEachCm}
 use Rattle.vault_spec.proofs.CmAdding.{three_parts, one_more, four_parts, entry_spares, file_arrives, new_file_comes, directory_at, its_item, its_full, its_id, arrives_then, directory_stands, folder_bare, HasEmptyFolder, folder_side, folder_ready, folder_apart, shelf_side, by_shelf, new_at, folder_free, new_after_shelf}
 
 pub shelf_text : (keys : CmKeys) → CmTexts keys → (id : List ℕ) → is_base32_text 2 (take 2 (cm_folder_of keys id)) ≡ true
@@ -302,5 +302,5 @@ new_directory_keeps vault texts v front dir name id orderly leads named is_id no
     side : v (shelf_named (cm_folder_of vault.keys id)) ≡ NoEntry → IsSide (cm_format vault) (cm_lawful vault texts) v (directory_edit (shelf_named (cm_folder_of vault.keys id)))
     side = shelf_side vault texts v front dir id (orderly_is_rooted (cm_format vault) v orderly) leads
 
-pub cm_keeps : (vault : CmVault) (texts : CmTexts vault.keys) → KeepsItems (cm_format vault) (cm_lawful vault texts)
+pub cm_keeps : OfEachCm KeepsItems
 cm_keeps vault texts = record { file = new_file_keeps vault texts; directory = new_directory_keeps vault texts }

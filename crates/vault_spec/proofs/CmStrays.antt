@@ -12,7 +12,7 @@ use Rattle.vault_spec.specs.Moving.{StraysGoAlone}
 use Rattle.vault_spec.specs.RootFiles.{is_root_file}
 use Rattle.vault_spec.proofs.StrayLaws.{KnowsStrays}
 use Rattle.vault_spec.proofs.StraysAlone.{strays_alone}
-use Rattle.vault_spec.proofs.CmVault.{is_mark, item_by_kind, item_by_marks, content_size, cm_lawful}
+use Rattle.vault_spec.proofs.CmVault.{is_mark, item_by_kind, item_by_marks, content_size, cm_lawful, OfEachCm}
 use Rattle.vault_spec.proofs.CmKeeping.{shelf_text, shelf_role, folder_is}
 
 -- a mark that is a file belongs in the folder
@@ -151,7 +151,7 @@ below_role (x ∷ y ∷ []) a rest there role = shelf_below x y a rest there (by
 below_role (x ∷ y ∷ z ∷ []) a rest there role = refl
 below_role (x ∷ y ∷ z ∷ e ∷ p) a rest there role = refl
 
-cm_strays : (vault : CmVault) (texts : CmTexts vault.keys) → KnowsStrays (cm_format vault) (cm_lawful vault texts)
+cm_strays : OfEachCm KnowsStrays
 unfolding cm_lawful
 cm_strays vault texts = record {
   layout = inr (record {

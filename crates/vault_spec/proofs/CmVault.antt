@@ -5,13 +5,10 @@ use Rattle.vault_spec.proofs.PathEnds.{child-both}
 use Rattle.std.proofs.Common.{◌≡◌, ◌≢◌, ℕ, Bool, true, false, ◌&&◌, ◌||◌, List, [], ◌∷◌, ◌++◌, cond, refl, sym, ap, ◌∙◌, inr, subst, Some, None, Option, IsTrue, length, codes, arith, nat_le, bytes_eq, ◌⊎◌, ◌+◌, inl, length-append, append-nil, is_some}
 use Rattle.std.proofs.lemmas.List.{append_cancel_right}
 use Rattle.std.specs.Option.{option_and_then}
-use Rattle.aes_lanes.specs.Bytes.{AreBytes}
-use Rattle.vault_values.specs.declared.keys.CmKeys.{CmKeys}
 use Rattle.folder_spec.specs.Path.{Part, Path, child}
 use Rattle.folder_spec.specs.View.{Found, NoEntry, Folder, FileOf, Special, View, kind_found}
-use Rattle.plain_tree.specs.Names.{is_name}
-use Rattle.vault_names.specs.Cryptomator.{cm_text, cm_long_name, cm_stored, IsCmTextOf, IsPlainUpTo}
-use Rattle.vault_spec.specs.Format.{Item, Nothing, FileItem, DirectoryItem, NoItem, Expected, is_bytes, is_file, file_bytes}
+use Rattle.vault_names.specs.Cryptomator.{cm_text, cm_long_name, cm_stored, IsPlainUpTo}
+use Rattle.vault_spec.specs.Format.{Format, Item, Nothing, FileItem, DirectoryItem, NoItem, Expected, is_bytes, is_file, file_bytes}
 use Rattle.vault_spec.specs.Cryptomator.{CmVault, cm_format, cm_item_of, cm_role, content_file, directory_id, folder_item, full_file, has_file, id_file, inner_role, is_base32_text, symlink_file, top, content_folder, cm_item}
 use Rattle.vault_spec.proofs.Entries.{one_text, same_forms}
 use Rattle.vault_spec.proofs.Lawful.{IsLawful}
@@ -262,3 +259,7 @@ cm_lawful vault texts = record {
   role_in_nothing = λ long x there. refl;
   full_place = λ entry. inr (full_file, refl);
 }
+
+-- a fact of the format of each vault
+abbrev pub OfEachCm : ((f : Format) → IsLawful f → Type 0) → Type 0
+OfEachCm Fact = (vault : CmVault) (texts : CmTexts vault.keys) → Fact (cm_format vault) (cm_lawful vault texts)

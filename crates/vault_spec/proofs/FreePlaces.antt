@@ -1,5 +1,5 @@
 -- In a clean vault nothing stands at the entry of a name under which there is no item, where no other item is stored there.
-use Rattle.std.proofs.Common.{◌≡◌, ◌≢◌, ◌⊎◌, ℕ, Bool, true, false, ◌||◌, List, [], refl, sym, ap, ◌∙◌, inl, inr, subst, append-nil, IsTrue, is_some, bytes_eq}
+use Rattle.std.proofs.Common.{◌≡◌, ◌≢◌, ℕ, Bool, true, false, ◌||◌, List, [], refl, sym, ap, ◌∙◌, inl, inr, subst, append-nil, IsTrue, is_some, bytes_eq}
 use Rattle.std.proofs.lemmas.Slice.Eq.{bytes_eq-Decides}
 use Rattle.folder_spec.specs.Path.{Path, child}
 use Rattle.folder_spec.specs.View.{NoEntry, View}

@@ -5,10 +5,8 @@ use Rattle.std.proofs.lemmas.Bool.{false_from_ne_true}
 use Rattle.std.proofs.lemmas.List.{take-append-drop, take-append-le}
 use Rattle.std.proofs.Math.Seq.{drop-append_seam, drop-append-add}
 use Rattle.std.proofs.lemmas.Slice.Eq.{bytes_eq-Decides}
-use Rattle.aes_lanes.specs.Bytes.{IsBlock}
 use Rattle.json_fields.specs.Base64.{is_base64url}
-use Rattle.plain_tree.specs.Names.{is_name}
-use Rattle.vault_names.specs.Gocryptfs.{go_text, long_name, entry_of, IsTextOf}
+use Rattle.vault_names.specs.Gocryptfs.{long_name, entry_of}
 use Rattle.vault_names.specs.declared.entry.Stored.{Stored}
 use Rattle.folder_spec.specs.Path.{Path}
 use Rattle.vault_spec.specs.StoredNames.{GoTexts}

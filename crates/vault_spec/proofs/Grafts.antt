@@ -2,10 +2,10 @@
 use Rattle.vault_spec.specs.Findings.{IsFileAt}
 use Rattle.std.specs.Option.{option_and_then}
 use Rattle.std.proofs.Common.{◌≡◌, ◌≢◌, ◌⊎◌, ℕ, Bool, true, false, List, [], ◌∷◌, ◌++◌, Ok, Err, Result, cond, refl, sym, ap, ◌∙◌, inl, inr, subst, append_assoc, append-nil, Some, None, Option, IsTrue, is_some}
-use Rattle.folder_spec.specs.Path.{Part, Path, child, below}
+use Rattle.folder_spec.specs.Path.{Part, Path, child}
 use Rattle.folder_spec.specs.View.{Found, NoEntry, Folder, FileOf, Special, View, kind_found}
 use Rattle.folder_spec.specs.Seen.{under}
-use Rattle.folder_spec.specs.Edit.{Edit, grafted, edited}
+use Rattle.folder_spec.specs.Edit.{Edit, edited}
 use Rattle.folder_spec.proofs.Edits.{off_edit}
 use Rattle.folder_spec.proofs.Paths.{begins_or_not, child_begins}
 use Rattle.plain_tree.specs.Names as plain

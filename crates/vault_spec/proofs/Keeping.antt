@@ -1,8 +1,8 @@
 -- An edit beside an item keeps a vault clean, and so does the last edit of an item, where what they bring has its place.
-use Rattle.std.proofs.Common.{◌≡◌, ◌≢◌, ◌⊎◌, ℕ, Bool, true, false, List, [], ◌∷◌, ◌++◌, Ok, Err, refl, sym, ap, ◌∙◌, inl, inr, subst, IsTrue, is_some}
+use Rattle.std.proofs.Common.{◌≡◌, ◌≢◌, ◌⊎◌, ℕ, true, false, List, [], ◌∷◌, ◌++◌, Ok, Err, refl, sym, ap, ◌∙◌, inl, inr, subst, IsTrue, is_some}
 use mathlib.Core.Path.{fun_ext}
 use Rattle.folder_spec.specs.Path.{Part, Path, child}
-use Rattle.folder_spec.specs.View.{Found, NoEntry, Folder, View}
+use Rattle.folder_spec.specs.View.{NoEntry, Folder, View}
 use Rattle.folder_spec.specs.Seen.{under}
 use Rattle.folder_spec.specs.Edit.{Edit, edited}
 use Rattle.folder_spec.proofs.Paths.{one_or_not}
@@ -10,7 +10,7 @@ use Rattle.plain_tree.specs.Names as plain
 use Rattle.plain_tree.specs.Names.{is_name}
 use Rattle.vault_spec.specs.declared.Finding.{Finding}
 use Rattle.vault_spec.specs.declared.Lack.{Lack}
-use Rattle.vault_spec.specs.Format.{Format, Directory, Item, FileItem, NoItem, ContentFolder, Extra}
+use Rattle.vault_spec.specs.Format.{Format, Directory, Item, FileItem, NoItem, Extra}
 use Rattle.vault_spec.specs.Standing.{File, Dir, standing_of, root_of, entry_at, holds_full, item_at, standing_in, standing}
 use Rattle.vault_spec.specs.Reached.{Leads}
 use Rattle.vault_spec.specs.Alike.{IsNoItem, AreAlike, LooksAlike, GainsItem, IsOrderly}

@@ -7,12 +7,8 @@ use Rattle.vault_spec.proofs.laws.new_items_of_cryptomator_keep_the_vault.Goals 
 
 pub returns : goal.returns
 returns c =
+    let texts = c.cm_stored_names.ensures in
     record {
-      new = λ vault.
-          new_items_stay (cm_format vault)
-          (cm_lawful vault (c.cm_stored_names.ensures vault.keys))
-          (cm_makes vault (c.cm_stored_names.ensures vault.keys));
-      replaced = λ vault.
-          contents_stay (cm_format vault)
-          (cm_lawful vault (c.cm_stored_names.ensures vault.keys));
+      new = λ vault. new_items_stay (cm_format vault) (cm_lawful vault (texts vault.keys)) (cm_makes vault (texts vault.keys));
+      replaced = λ vault. contents_stay (cm_format vault) (cm_lawful vault (texts vault.keys));
     }

@@ -23,6 +23,7 @@ use Rattle.move_journal.specs.Lines.{has_no_newline}
 use Rattle.move_journal.specs.Reading.{ReadsAs, StandsIn, file_bytes, journal_bytes}
 use Rattle.move_journal.specs.Writing.{GivesBack}
 use Rattle.move_journal.proofs.Values.{one_line, same_rest, parsed_text, plan_decoded}
+use Rattle.move_journal.proofs.Lines.{journal_with}
 use Rattle.move_journal.proofs.Exact.{counts, lines_are_plain, no_bad_line, same_form, text_begins}
 
 same_phase : (p q : Phase) → phase_line p ≡ phase_line q → p ≡ q
@@ -66,19 +67,16 @@ same_lines (line ∷ lines) (other ∷ others) p q n e =
 lines_of_text : (form : Form) (j k : Journal) → IsJournal j → IsJournal k → text_in form j ≡ text_in form k → lines_of form j ≡ lines_of form k
 lines_of_text form j k h i e = same_lines (lines_of form j) (lines_of form k) (lines_are_plain form j h) (lines_are_plain form k i) (counts form j ∙ sym (counts form k)) e
 
-abbrev made : Phase → NameMap → Path → Path → ℕ → List ℕ → Journal
-made phase names source target items plan = record { phase = phase; names = names; source = source; target = target; items = items; plan = plan }
-
 same_fields : (j k : Journal) → IsJournal j → IsJournal k → j.names ≡ k.names → phase_line j.phase ≡ phase_line k.phase → from_line j.source ≡ from_line k.source → to_line j.target ≡ to_line k.target
     → items_line j.items ≡ items_line k.items → plan_line j.plan ≡ plan_line k.plan → j ≡ k
 same_fields j k h i names phase source target items plan =
-    ap (λ (x : Phase). made x j.names j.source j.target j.items j.plan) (same_phase j.phase k.phase phase)
-    ∙ ap (λ (x : NameMap). made k.phase x j.source j.target j.items j.plan) names
-    ∙ ap (λ (x : Path). made k.phase k.names x j.target j.items j.plan)
+    ap (λ (x : Phase). journal_with x j.names j.source j.target j.items j.plan) (same_phase j.phase k.phase phase)
+    ∙ ap (λ (x : NameMap). journal_with k.phase x j.source j.target j.items j.plan) names
+    ∙ ap (λ (x : Path). journal_with k.phase k.names x j.target j.items j.plan)
     (same_path j.source k.source h.source i.source (same_rest (codes "from ") (text_of j.source) (text_of k.source) source))
-    ∙ ap (λ (x : Path). made k.phase k.names k.source x j.items j.plan) (same_path j.target k.target h.target i.target (same_rest (codes "to ") (text_of j.target) (text_of k.target) target))
-    ∙ ap (λ (x : ℕ). made k.phase k.names k.source k.target x j.plan) (same_items j.items k.items h.items i.items (same_rest (codes "items ") (decimal j.items) (decimal k.items) items))
-    ∙ ap (λ (x : List ℕ). made k.phase k.names k.source k.target k.items x) (same_plan j.plan k.plan h.plan i.plan (same_rest (codes "plan ") (encode_lower j.plan) (encode_lower k.plan) plan))
+    ∙ ap (λ (x : Path). journal_with k.phase k.names k.source x j.items j.plan) (same_path j.target k.target h.target i.target (same_rest (codes "to ") (text_of j.target) (text_of k.target) target))
+    ∙ ap (λ (x : ℕ). journal_with k.phase k.names k.source k.target x j.plan) (same_items j.items k.items h.items i.items (same_rest (codes "items ") (decimal j.items) (decimal k.items) items))
+    ∙ ap (λ (x : List ℕ). journal_with k.phase k.names k.source k.target k.items x) (same_plan j.plan k.plan h.plan i.plan (same_rest (codes "plan ") (encode_lower j.plan) (encode_lower k.plan) plan))
 
 abbrev line_at : ℕ → List (List ℕ) → List ℕ
 line_at n lines = get_or lines n []
@@ -186,12 +184,10 @@ read_back j text (Err NoMemory) h is reads = tt
 
 -- ---- in a folder
 
-one_file : (a b : List ℕ) → FileOf a ≡ FileOf b → a ≡ b
-one_file a b e = cc e
-
 pub one_stands : (work : Path) (v : View) (j k : Journal) → IsJournal j → IsJournal k → StandsIn work j v → StandsIn work k v → j ≡ k
 one_stands work v j k h i one other =
-    one_journal j k one.text h i one.of (subst (IsTextOf k) (one_file other.text one.text (sym other.file ∙ one.file)) other.of)
+    let same : other.text ≡ one.text = (let files : FileOf other.text ≡ FileOf one.text = sym other.file ∙ one.file in cc) in
+    one_journal j k one.text h i one.of (subst (IsTextOf k) same other.of)
 
 pub found_back : (work : Path) (v : View) (j : Journal) (result : Result Journal JournalFault) → IsJournal j → StandsIn work j v → ReadsAs (journal_bytes v work) result → GivesBack j result
 found_back work v j result h stands reads = read_back j stands.text result h stands.of (subst (λ found. ReadsAs (file_bytes found) result) stands.file reads)

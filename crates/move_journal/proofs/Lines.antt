@@ -100,7 +100,7 @@ some_digest_is_one : IsDigest (zeros 32)
 unfolding zeros
 some_digest_is_one = record { size = refl; bytes = zeros_are_bytes 32 }
 
-abbrev journal_with : Phase → NameMap → Path → Path → ℕ → List ℕ → Journal
+abbrev pub journal_with : Phase → NameMap → Path → Path → ℕ → List ℕ → Journal
 journal_with phase names source target items plan = record { phase = phase; names = names; source = source; target = target; items = items; plan = plan }
 
 is_journal : (phase : Phase) (names : NameMap) (source target : Path) (items : ℕ) (plan : List ℕ) → IsParsed source → IsParsed target → items ≤ 200000 → IsDigest plan

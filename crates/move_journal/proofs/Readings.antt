@@ -8,8 +8,7 @@ use Rattle.folder_spec.specs.declared.Kind.{Kind}
 use Rattle.folder_spec.specs.declared.Kind.TheVariants.{File}
 use Rattle.folder_spec.specs.View.{Found, NoEntry, Folder, FileOf, Special, kind_found}
 use Rattle.folder_spec.specs.Event.{Told}
-use Rattle.port_model.specs.Counts.{CountRose}
-use Rattle.folder_model.specs.Answers.{Counts, CountsAbove, Reads}
+use Rattle.folder_model.specs.Answers.{Counts, Reads}
 use Rattle.folder_model.proofs.Counting.{never_falls}
 use Rattle.move_journal.specs.declared.journal.Journal.{Journal}
 use Rattle.move_journal.specs.declared.journal.JournalFault.{JournalFault}
@@ -26,12 +25,6 @@ fell_at None folder.NoMemory = tt
 fell_at (Some bytes) folder.Failed = tt
 fell_at (Some bytes) folder.Refused = tt
 fell_at (Some bytes) folder.NoMemory = tt
-
--- and the count rose, if it was no want of memory
-pub risen_by : (before after : ℕ) (fault : FolderFault) → CountsAbove {T = Unit {0}} before after (Err fault) → fault_of fault ≡ Failed → CountRose before after
-risen_by before after folder.Failed counts e = counts.1
-risen_by before after folder.Refused counts e = counts.1
-risen_by before after folder.NoMemory counts e = cc e
 
 -- a file is where its kind says so
 pub file_there : (x : Found) (kind : Kind) → kind ≡ File → kind ≡ kind_found x → (bytes : List ℕ) × (x ≡ FileOf bytes)

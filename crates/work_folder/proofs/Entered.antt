@@ -22,7 +22,8 @@ use Rattle.work_folder.specs.Entries.{new_journal_path, stage_path}
 use Rattle.work_folder.specs.Looking.{Answer, Tests, Gives, Looks}
 use Rattle.work_folder.specs.Changing.{ChangesAt, Alters}
 use Rattle.work_folder.specs.Entering.{below_stage, IsStage, IsBelowStage, IsWorkOrStage, IsLeftOver, Empties, EntersAs, Enters, Restages, Prepares}
-use Rattle.work_folder.proofs.Looks.{risen_by, gives_more}
+use Rattle.work_folder.proofs.Looks.{gives_more}
+use Rattle.folder_staging.proofs.Blame.{risen_by}
 use Rattle.work_folder.proofs.Changed.{alters_none, alters_then, alters_more, changes_at, at_alters, seen_stays}
 use Rattle.work_folder.proofs.Steps.{stays_so}
 use Rattle.work_folder.proofs.Passed.{passed, work_place, new_journal_place, stage_place, others_missing}
@@ -115,7 +116,7 @@ module _ (work : Path) where
     gone = tt;
     fault = λ told e. fault_is fault told (cc e);
     grows = above_grows n0 n1 fault counts;
-    failed = λ e. risen_by n0 n1 fault counts (cc e);
+    failed = λ e. risen_by fault_of Failed (λ none. cc none) n0 n1 fault counts (cc e);
   }
 
   pub make_fell : (t u : Option Told) (n0 n1 : ℕ) (fault : FolderFault) → Alters (λ q. q ≡ work) (λ q. ⊥) t u → CountsAbove {T = Unit {0}} n0 n1 (Err fault)

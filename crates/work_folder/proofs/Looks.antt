@@ -1,6 +1,5 @@
 -- What the exits of the tests say.
 use Rattle.std.proofs.Common.{◌≡◌, ◌≢◌, ℕ, ◌≤◌, false, Option, Result, Ok, Err, refl, sym, ◌∙◌, subst, arith}
-use Rattle.port_model.specs.Counts.{CountRose}
 use Rattle.folder_spec.specs.declared.FolderFault.{FolderFault}
 use Rattle.folder_spec.specs.declared.FolderFault.TheVariants as folder
 use Rattle.folder_spec.specs.declared.Kind.{Kind}
@@ -9,18 +8,14 @@ use Rattle.folder_spec.specs.Path.{Path, parent}
 use Rattle.folder_spec.specs.Event.{Told}
 use Rattle.folder_spec.specs.View.{Found, NoEntry, Folder, FileOf, Special, View, kind_found}
 use Rattle.folder_spec.specs.Seen.{IfSeen, IsSeen}
-use Rattle.folder_model.specs.Answers.{Answers, Counts, CountsAbove}
+use Rattle.folder_model.specs.Answers.{Answers, Counts}
 use Rattle.folder_model.proofs.Counting.{never_falls, rose_since, counts_at_fault}
+use Rattle.folder_staging.proofs.Blame.{risen_by}
 use Rattle.work_folder.specs.declared.fault.WorkFault.{WorkFault}
 use Rattle.work_folder.specs.declared.fault.WorkFault.TheVariants.{NoParent, WrongKind, Foreign, Begun, Depth, Failed, NoMemory}
 use Rattle.work_folder.specs.Entries.{journal_path}
 use Rattle.work_folder.specs.Faults.{fault_of}
 use Rattle.work_folder.specs.Looking.{Answer, TestsEntries, TestsJournal, TestsKind, TestsParent, Gives, Looks}
-
-pub risen_by : (before after : ℕ) (fault : FolderFault) → CountsAbove {T = Unit {0}} before after (Err fault) → fault_of fault ≡ Failed → CountRose before after
-risen_by before after folder.Failed counts e = counts.1
-risen_by before after folder.Refused counts e = counts.1
-risen_by before after folder.NoMemory counts e = cc e
 
 pub fell_gives : (T : Type 0) (A : Answer → Type 0) (fault : FolderFault) → Gives {T = T} A (Err (fault_of fault))
 fell_gives T A folder.Failed = tt
@@ -55,7 +50,7 @@ fell_exit T A t u n0 n1 Condition IsRight fault same holds answer counts = recor
   told = same;
   answer = λ v is. fell_gives (Unit {0}) (A v) fault;
   grows = never_falls {T = T} t n0 n1 (Err fault) counts;
-  failed = λ e. risen_by n0 n1 fault (counts_at_fault T (Unit {0}) t n0 n0 n1 Condition IsRight fault (omega arith) holds answer counts) (cc e);
+  failed = λ e. risen_by fault_of Failed (λ none. cc none) n0 n1 fault (counts_at_fault T (Unit {0}) t n0 n0 n1 Condition IsRight fault (omega arith) holds answer counts) (cc e);
 }
 
 pub kind_fell : (A : View → Answer → Type 0) (at : Path) (t u : Option Told) (n0 n1 : ℕ) (fault : FolderFault) → u ≡ t

@@ -24,9 +24,10 @@ use Rattle.work_folder.specs.Entries.{stage_path}
 use Rattle.work_folder.specs.Looking.{Gives}
 use Rattle.work_folder.specs.Changing.{ChangesAt, Alters}
 use Rattle.work_folder.specs.Entering.{below_stage, IsStage, IsBelowStage, Empties, Restages}
-use Rattle.work_folder.proofs.Looks.{risen_by, fell_gives}
+use Rattle.work_folder.proofs.Looks.{fell_gives}
+use Rattle.folder_staging.proofs.Blame.{risen_by}
 use Rattle.work_folder.proofs.Changed.{alters_none, alters_call, alters_more, changes_at, removal_alters}
-use Rattle.work_folder.proofs.Steps.{put_there, made_there, bare_below, stays_so}
+use Rattle.work_folder.proofs.Steps.{put_there, found_there, bare_below, stays_so}
 
 pub within_inside : (r : Reach) (q : Path) → IsWithin r q → IsTrue (apart_from r.at q) → ⊥
 within_inside r q within apart = not_below r.at within.rest (ap (below r.at) (sym within.is) ∙ apart-below r.at q apart)
@@ -73,7 +74,7 @@ module _ (work : Path) where
     ready = tt;
     answer = λ v is. fell_gives (Unit {0}) (Empties v work) fault;
     grows = le;
-    failed = λ e. risen_by n0 n1 fault counts (cc e);
+    failed = λ e. risen_by fault_of Failed (λ none. cc none) n0 n1 fault counts (cc e);
   }
 
   pub no_memory_restaged : (T : Type 0) (t : Option Told) (n : ℕ) → Restages {T = T} work t t n n (Err NoMemory)
@@ -141,7 +142,7 @@ module _ (work : Path) where
         ready = tt;
         answer = λ v is. fell_gives (Unit {0}) (Empties v work) fault;
         grows = (let more : n1 ≤ n2 = never_falls {T = Unit {0}} t1 n1 n2 (Err fault) counts in omega (arith, le, more));
-        failed = λ e. risen_by n0 n2 fault (counts_after (MakeDir (stage_path work)) t1 t2 n0 n1 n2 (Err fault) le make_allowed changes counts) (cc e);
+        failed = λ e. risen_by fault_of Failed (λ none. cc none) n0 n2 fault (counts_after (MakeDir (stage_path work)) t1 t2 n0 n1 n2 (Err fault) le make_allowed changes counts) (cc e);
       }
 
       nothing_below : IfSeen t0 (λ v. IsBare (below_stage work) v)
@@ -154,7 +155,7 @@ module _ (work : Path) where
         moments = make_at (Ok tt) changes;
         ready = λ w is. record {
           folder = stays_so (IsStage work) (λ q. ⊥) t0 t2 (make_moments (Ok tt) changes) work work_not_stage (λ no_. no_) (λ x. x ≡ Folder) folder w is;
-          stage = put_there (MakeDir (stage_path work)) (stage_path work) Folder t1 t2 (Ok tt) sound (made_there (stage_path work)) changes w is;
+          stage = put_there (MakeDir (stage_path work)) (stage_path work) Folder t1 t2 (Ok tt) sound (found_there (stage_path work) Folder) changes w is;
           bare = λ rest least.
               stays_so (IsStage work) (λ q. ⊥) t0 t2 (make_moments (Ok tt) changes) (stage_path work ++ rest)
               (λ e. let size : length (stage_path work ++ rest) ≡ length (stage_path work) = ap length e in omega (arith, size, least, length-append (stage_path work) rest))

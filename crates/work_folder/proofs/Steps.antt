@@ -7,7 +7,7 @@ use Rattle.folder_spec.specs.Path.{Part, Path}
 use Rattle.folder_spec.specs.State.{present, IsSound}
 use Rattle.folder_spec.specs.Event.{Call, MakeDir, RemoveFile, Allowed, Told, Changes}
 use Rattle.folder_spec.specs.View.{Found, NoEntry, Folder, FileOf, Special, View, kind_found, found}
-use Rattle.folder_spec.specs.Seen.{IfSeen, IsSeen, ShowsFree, seen, seen_after}
+use Rattle.folder_spec.specs.Seen.{IfSeen, IsSeen, ShowsFree, put_found, seen, seen_after}
 use Rattle.folder_spec.proofs.Paths.{path_eq-same}
 use Rattle.folder_spec.proofs.Tables.{present_is_table}
 use Rattle.folder_spec.proofs.Seen.{seen_changed, may_call_allowed}
@@ -24,11 +24,8 @@ put_there call p x (Some a) (Some b) (Ok done) sound puts h = λ v is.
 put_there call p x None (Some b) (Ok done) sound puts h = absurd h
 put_there call p x t None (Ok done) sound puts h = λ v is. absurd is
 
-pub made_there : (p : Path) (v : View) → seen_after v (MakeDir p) p ≡ Folder
-made_there p v = rw (path_eq-same p) refl
-
-pub removed_there : (p : Path) (v : View) → seen_after v (RemoveFile p) p ≡ NoEntry
-removed_there p v = rw (path_eq-same p) refl
+pub found_there : (p : Path) (x : Found) (v : View) → put_found v p x p ≡ x
+found_there p x v = rw (path_eq-same p) refl
 
 -- what a call found still stands, where what is told stays
 shown : (t u : Option Told) (a : Told) → u ≡ t → u ≡ Some a → IsSeen t (seen a.state)

@@ -7,7 +7,8 @@ use Rattle.folder_spec.specs.Seen.{IsSeen, ShowsFile}
 use Rattle.folder_model.specs.Answers.{Reads}
 use Rattle.folder_model.proofs.Counting.{never_falls, counts_at_fault}
 use Rattle.move_journal.specs.Reading.{journal_bytes, fault_of}
-use Rattle.move_journal.proofs.Readings.{fell_at, risen_by, file_there, read_whole, read_too_large, grows_twice, parses_journals}
+use Rattle.move_journal.proofs.Readings.{fell_at, file_there, read_whole, read_too_large, grows_twice, parses_journals}
+use Rattle.folder_staging.proofs.Blame.{risen_by}
 use Rattle.move_journal.proofs.reading.read.Goals as goal
 
 pub returns-in_err-length-clause-answer : goal.returns-in_err-length-clause-answer
@@ -21,7 +22,7 @@ returns-in_err-kind-clause-failed g c is =
     let n1 = g.F.Folder.faults c.kind.new.self in
     let p = err_from_is_err_and c.from_residual-in_err-kind.result c.from_residual-in_err-kind.ensures.1 in
     let fault : fault_of c.in_err-kind.field-0.0 ≡ Failed = cc (p.1, p.2, is) in
-    risen_by n0 n1 c.in_err-kind.field-0.0
+    risen_by fault_of Failed (λ none. cc none) n0 n1 c.in_err-kind.field-0.0
     (counts_at_fault Kind (Unit {0}) (g.F.Folder.told c.args.folder.now) n0 n0 n1 (λ v. Unit {0}) (λ v kind. kind ≡ kind_found (v c.in_ok-at.at)) c.in_err-kind.field-0.0
     (omega arith) (λ v seen_. tt) c.in_err-kind.ensures.answer c.in_err-kind.ensures.counts) fault
 
@@ -35,7 +36,7 @@ returns-in_err-length-clause-failed g c is =
     let at = c.in_ok-at.at in
     let p = err_from_is_err_and c.from_residual-in_err-length.result c.from_residual-in_err-length.ensures.1 in
     let fault : fault_of c.in_err-length.field-0.0 ≡ Failed = cc (p.1, p.2, is) in
-    risen_by n0 n2 c.in_err-length.field-0.0
+    risen_by fault_of Failed (λ none. cc none) n0 n2 c.in_err-length.field-0.0
     (counts_at_fault ℕ (Unit {0}) t1 n0 n1 n2 (λ v. ShowsFile v at) (λ v n. Reads (v at) 0 c.as_mut_slice-bytes.result.now c.read.new.out n) c.in_err-length.field-0.0
     (never_falls t0 n0 n1 (Ok c.in_ok-kind.field-0) c.in_ok-kind.ensures.counts)
     (λ v shown. file_there (v at) c.in_ok-kind.field-0 c.in-File.is (c.in_ok-kind.ensures.answer v (subst (λ t. IsSeen t v) c.in_ok-kind.ensures.told shown)).1)

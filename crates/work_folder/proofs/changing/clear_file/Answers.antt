@@ -6,7 +6,7 @@ use Rattle.folder_spec.specs.View.{NoEntry, kind_found}
 use Rattle.folder_model.proofs.Counting.{never_falls, counts_after, counts_at_fault}
 use Rattle.work_folder.specs.Changing.{Alters}
 use Rattle.work_folder.proofs.Changed.{alters_call}
-use Rattle.work_folder.proofs.Steps.{put_there, removed_there, file_there}
+use Rattle.work_folder.proofs.Steps.{put_there, found_there, file_there}
 use Rattle.work_folder.proofs.changing.clear_file.Goals as goal
 
 pub returns-in_err-kind-clause-counts : goal.returns-in_err-kind-clause-counts
@@ -26,7 +26,7 @@ returns-in-File-clause-moments g c =
 pub returns-in-File-clause-gone : goal.returns-in-File-clause-gone
 returns-in-File-clause-gone g c =
     put_there (RemoveFile c.args.at.now) c.args.at.now NoEntry (g.F.Folder.told c.kind.new.self) (g.F.Folder.told c.remove_file.new.self) c.remove_file.result
-    (g.met.F.Folder.sound c.kind.new.self) (removed_there c.args.at.now) c.remove_file.ensures.changes
+    (g.met.F.Folder.sound c.kind.new.self) (found_there c.args.at.now NoEntry) c.remove_file.ensures.changes
 
 pub returns-in-File-clause-counts : goal.returns-in-File-clause-counts
 returns-in-File-clause-counts g c =

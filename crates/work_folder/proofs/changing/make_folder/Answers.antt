@@ -6,7 +6,7 @@ use Rattle.folder_spec.specs.View.{Folder, kind_found}
 use Rattle.folder_model.proofs.Counting.{never_falls, counts_after, counts_at_fault}
 use Rattle.work_folder.specs.Changing.{Alters}
 use Rattle.work_folder.proofs.Changed.{alters_call}
-use Rattle.work_folder.proofs.Steps.{put_there, made_there, missing_free}
+use Rattle.work_folder.proofs.Steps.{put_there, found_there, missing_free}
 use Rattle.work_folder.proofs.changing.make_folder.Goals as goal
 
 pub returns-in_err-kind-clause-counts : goal.returns-in_err-kind-clause-counts
@@ -26,7 +26,7 @@ returns-in-Missing-clause-moments g c =
 pub returns-in-Missing-clause-there : goal.returns-in-Missing-clause-there
 returns-in-Missing-clause-there g c =
     put_there (MakeDir c.args.at.now) c.args.at.now Folder (g.F.Folder.told c.kind.new.self) (g.F.Folder.told c.make_dir.new.self) c.make_dir.result
-    (g.met.F.Folder.sound c.kind.new.self) (made_there c.args.at.now) c.make_dir.ensures.changes
+    (g.met.F.Folder.sound c.kind.new.self) (found_there c.args.at.now Folder) c.make_dir.ensures.changes
 
 pub returns-in-Missing-clause-counts : goal.returns-in-Missing-clause-counts
 returns-in-Missing-clause-counts g c =

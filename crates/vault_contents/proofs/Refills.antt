@@ -3,6 +3,7 @@ use Rattle.std.proofs.Common.{◌≡◌, ℕ, zero, suc, ◌+◌, ◌<◌, ◌�
 use Rattle.std.proofs.Math.Nat.{min-le_right}
 use Rattle.std.proofs.lemmas.Bool.{leb-true, le-leb}
 use Rattle.std.proofs.lemmas.List.{nil_from_length, take-append-drop, length-take-le}
+use Rattle.std.specs.Cmp.{first_so, second_so}
 use Rattle.std.specs.List.{concat}
 use Rattle.chunk_files.specs.Decoding.{Decoding}
 use Rattle.chunk_files.specs.Reading.{Reading}
@@ -68,11 +69,6 @@ unfilled at cats.Sink out before after h = absurd h
 
 -- ---- whether a file suits
 
-test_both : (a b : Bool) → (a && b) ≡ true → (a ≡ true) × (b ≡ true)
-test_both true true h = (refl, refl)
-test_both true false h = cc
-test_both false b h = cc
-
 test_or : (ended : Bool) (b : Bool) → (not ended || b) ≡ true → ended ≡ true → b ≡ true
 test_or true true h is = refl
 test_or true false h is = cc
@@ -85,10 +81,11 @@ or_test false b h = refl
 
 pub suits_so : (d : Decoding) (bytes : List ℕ) → suits d bytes ≡ true → Suits d bytes
 suits_so d bytes h =
-    let both = test_both (nat_le d.taken (length bytes)) (not d.ended || nat_le (length bytes) d.taken) h in
+    let reaches : Bool = nat_le d.taken (length bytes) in
+    let stops : Bool = not d.ended || nat_le (length bytes) d.taken in
     record {
-      front = leb-true d.taken (length bytes) both.0;
-      whole = λ ended. leb-true (length bytes) d.taken (test_or d.ended (nat_le (length bytes) d.taken) both.1 ended);
+      front = leb-true d.taken (length bytes) (first_so reaches stops h);
+      whole = λ ended. leb-true (length bytes) d.taken (test_or d.ended (nat_le (length bytes) d.taken) (second_so reaches stops h) ended);
     }
 
 suits_test : (d : Decoding) (bytes : List ℕ) → Suits d bytes → suits d bytes ≡ true

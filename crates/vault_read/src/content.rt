@@ -1,9 +1,10 @@
 //! Writing the content of a file of a vault.
-ghost use Rattle.std.specs.Prelude.{◌≡◌, ◌≢◌, ◌≤◌, ℕ, List, IfOk, IfErr, Ok, Err};
+ghost use Rattle.std.specs.Prelude.{◌≡◌, ◌≢◌, ℕ, List, IfOk, IfErr, Ok, Err};
 ghost use Rattle.std.specs.Io.KnownBytes.{Keeps};
-ghost use Rattle.port_model.specs.Counts.{CountRose};
+ghost use Rattle.port_model.specs.Counts.{Blames};
 ghost use Rattle.folder_spec.specs.View.{View, FileOf};
 ghost use Rattle.folder_spec.specs.Seen.{IfSeen, IsSeen};
+ghost use Rattle.folder_model.specs.Answers.{OnlyLooks};
 ghost use Rattle.vault_spec.specs.Vault.{format_of};
 ghost use Rattle.vault_read.specs.Finding.{Refuses};
 ghost use Rattle.vault_read.specs.Reading.{IsContentAt};
@@ -31,15 +32,12 @@ pub fn cat<F: Folder, O: Sink>(
     path: &PlainPath,
     out: &mut O,
 ) -> Result<u64, CatFault>
-    ensures told { F.told folder.new ≡ F.told folder.old }
+    ensures looks { OnlyLooks (F.told folder.old) (F.told folder.new) (result ≡ Err CatFault.Failed) (F.faults folder.old) (F.faults folder.new) }
     ensures cats { (v : View) → IsSeen (F.told folder.old) v
         → Cats (format_of vault.now.vault) vault.now.root v path.now result (O.taken out.old) (O.taken out.new) }
     ensures fault { IfErr result (λ fault. IsCatFault fault) }
     ensures nothing { (fault : FindFault) → result ≡ Err (CatFault.Find fault) → Keeps (O.taken out.old) (O.taken out.new) }
-    ensures failed { result ≡ Err CatFault.Failed → CountRose (F.faults folder.old) (F.faults folder.new) }
-    ensures sink { result ≡ Err CatFault.Sink → CountRose (O.faults out.old) (O.faults out.new) }
-    ensures grows { F.faults folder.old ≤ F.faults folder.new }
-    ensures counted { O.faults out.old ≤ O.faults out.new }
+    ensures output { Blames (result ≡ Err CatFault.Sink) (O.faults out.old) (O.faults out.new) }
 {
     let at = content_of(alloc, folder, vault, path)?;
     let mut reader = ContentReader::start(alloc, vault, &at)?;
@@ -54,11 +52,9 @@ fn content_of<F: Folder>(
     vault: &Vault,
     path: &PlainPath,
 ) -> Result<FPath, FindFault>
-    ensures told { F.told folder.new ≡ F.told folder.old }
+    ensures looks { OnlyLooks (F.told folder.old) (F.told folder.new) (result ≡ Err FindFault.Failed) (F.faults folder.old) (F.faults folder.new) }
     ensures place { IfOk result (λ at. IfSeen (F.told folder.old) (λ v. IsContentAt (format_of vault.now.vault) vault.now.root v path.now at)) }
     ensures fault { IfErr result (λ fault. IfSeen (F.told folder.old) (λ v. Refuses vault.now.root (content_at (format_of vault.now.vault) vault.now.root v path.now) fault)) }
-    ensures grows { F.faults folder.old ≤ F.faults folder.new }
-    ensures failed { result ≡ Err FindFault.Failed → CountRose (F.faults folder.old) (F.faults folder.new) }
 {
     what_is_found_stands();
     let place = find(alloc, folder, vault, path)?;
@@ -76,15 +72,12 @@ fn write_all<F: Folder, O: Sink>(
     out: &mut O,
 ) -> Result<u64, CatFault>
     requires file { IfSeen (F.told folder.old) (λ v. IsBeingRead v reader.old.at reader.old.decoding) }
-    ensures told { F.told folder.new ≡ F.told folder.old }
+    ensures looks { OnlyLooks (F.told folder.old) (F.told folder.new) (result ≡ Err CatFault.Failed) (F.faults folder.old) (F.faults folder.new) }
     ensures writes { IfSeen (F.told folder.old) (λ v. (bytes : List ℕ) → v reader.old.at ≡ FileOf bytes
         → Writes reader.old.at result (still reader.old.decoding bytes) (O.taken out.old) (O.taken out.new)) }
     ensures read { (fault : FindFault) → result ≢ Err (CatFault.Find fault) }
     ensures fault { IfErr result (λ fault. IsCatFault fault) }
-    ensures failed { result ≡ Err CatFault.Failed → CountRose (F.faults folder.old) (F.faults folder.new) }
-    ensures sink { result ≡ Err CatFault.Sink → CountRose (O.faults out.old) (O.faults out.new) }
-    ensures grows { F.faults folder.old ≤ F.faults folder.new }
-    ensures counted { O.faults out.old ≤ O.faults out.new }
+    ensures output { Blames (result ≡ Err CatFault.Sink) (O.faults out.old) (O.faults out.new) }
 {
     let mut total = 0;
     'chunks: loop {

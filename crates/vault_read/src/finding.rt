@@ -1,8 +1,8 @@
 //! Looking for a plain path in a vault.
-ghost use Rattle.std.specs.Prelude.{◌≡◌, ◌≢◌, ◌≤◌, List, ℕ, [], ◌∷◌, ◌++◌, IfOk, IfErr, Ok, Err};
+ghost use Rattle.std.specs.Prelude.{◌≡◌, ◌≢◌, List, ℕ, [], ◌∷◌, ◌++◌, IfOk, IfErr, Ok, Err};
 ghost use Rattle.folder_spec.specs.Path.{Path};
 ghost use Rattle.folder_spec.specs.Seen.{IfSeen, under};
-ghost use Rattle.port_model.specs.Counts.{CountRose};
+ghost use Rattle.folder_model.specs.Answers.{OnlyLooks};
 ghost use Rattle.vault_spec.specs.Format.{Directory};
 ghost use Rattle.vault_spec.specs.Standing as stands;
 ghost use Rattle.vault_spec.specs.Standing.{root_of, standing};
@@ -53,11 +53,9 @@ pub fn find<F: Folder>(
     vault: &Vault,
     path: &PlainPath,
 ) -> Result<Place, FindFault>
-    ensures told { F.told folder.new ≡ F.told folder.old }
+    ensures looks { OnlyLooks (F.told folder.old) (F.told folder.new) (result ≡ Err FindFault.Failed) (F.faults folder.old) (F.faults folder.new) }
     ensures place { IfOk result (λ place. IfSeen (F.told folder.old) (λ v. IsPlace vault.now.root (standing (format_of vault.now.vault) (under vault.now.root v) path.now) place)) }
     ensures fault { IfErr result (λ fault. IfSeen (F.told folder.old) (λ v. Refuses vault.now.root (spec.find (format_of vault.now.vault) (under vault.now.root v) path.now) fault)) }
-    ensures grows { F.faults folder.old ≤ F.faults folder.new }
-    ensures failed { result ≡ Err FindFault.Failed → CountRose (F.faults folder.old) (F.faults folder.new) }
 {
     let here = standing_found(alloc, folder, vault, path)?;
     place_of(vault.root(), path, &here)
@@ -71,12 +69,10 @@ pub fn enter<F: Folder>(
     vault: &Vault,
     path: &PlainPath,
 ) -> Result<DirPlace, FindFault>
-    ensures told { F.told folder.new ≡ F.told folder.old }
+    ensures looks { OnlyLooks (F.told folder.old) (F.told folder.new) (result ≡ Err FindFault.Failed) (F.faults folder.old) (F.faults folder.new) }
     ensures place { IfOk result (λ place. IfSeen (F.told folder.old) (λ v. IsDirPlace vault.now.root (format_of vault.now.vault) (under vault.now.root v) path.now place)) }
     ensures key { IfOk result (λ place. FitsKey vault.now.vault place.key) }
     ensures fault { IfErr result (λ fault. IfSeen (F.told folder.old) (λ v. Refuses vault.now.root (spec.enter (format_of vault.now.vault) (under vault.now.root v) path.now) fault)) }
-    ensures grows { F.faults folder.old ≤ F.faults folder.new }
-    ensures failed { result ≡ Err FindFault.Failed → CountRose (F.faults folder.old) (F.faults folder.new) }
 {
     let entered = enter_at(alloc, folder, vault, path)?;
     Ok(dir_place_of(vault.root(), entered)?)
@@ -89,12 +85,10 @@ pub(crate) fn enter_at<F: Folder>(
     vault: &Vault,
     path: &PlainPath,
 ) -> Result<Entered, FindFault>
-    ensures told { F.told folder.new ≡ F.told folder.old }
+    ensures looks { OnlyLooks (F.told folder.old) (F.told folder.new) (result ≡ Err FindFault.Failed) (F.faults folder.old) (F.faults folder.new) }
     ensures stands { IfOk result (λ entered. IfSeen (F.told folder.old) (λ v. standing (format_of vault.now.vault) (under vault.now.root v) path.now ≡ stands.Dir entered.at (Ok entered.dir))) }
     ensures key { IfOk result (λ entered. FitsKey vault.now.vault entered.dir.key) }
     ensures fault { IfErr result (λ fault. IfSeen (F.told folder.old) (λ v. Refuses vault.now.root (spec.enter (format_of vault.now.vault) (under vault.now.root v) path.now) fault)) }
-    ensures grows { F.faults folder.old ≤ F.faults folder.new }
-    ensures failed { result ≡ Err FindFault.Failed → CountRose (F.faults folder.old) (F.faults folder.new) }
 {
     let here = standing_found(alloc, folder, vault, path)?;
     enter_here(vault, path, here)
@@ -107,12 +101,10 @@ fn standing_found<F: Folder>(
     vault: &Vault,
     path: &PlainPath,
 ) -> Result<Standing, FindFault>
-    ensures told { F.told folder.new ≡ F.told folder.old }
+    ensures looks { OnlyLooks (F.told folder.old) (F.told folder.new) (result ≡ Err FindFault.Failed) (F.faults folder.old) (F.faults folder.new) }
     ensures stands { IfOk result (λ here. IfSeen (F.told folder.old) (λ v. reached_from (format_of vault.now.vault) (under vault.now.root v) [] (root_of (format_of vault.now.vault) (under vault.now.root v)) path.now ≡ Ok (standing_of here))) }
     ensures fits { IfOk result (λ here. EntersFit vault.now.vault here) }
     ensures fault { IfErr result (λ fault. IfSeen (F.told folder.old) (λ v. Refuses vault.now.root (reached_from (format_of vault.now.vault) (under vault.now.root v) [] (root_of (format_of vault.now.vault) (under vault.now.root v)) path.now) fault)) }
-    ensures grows { F.faults folder.old ≤ F.faults folder.new }
-    ensures failed { result ≡ Err FindFault.Failed → CountRose (F.faults folder.old) (F.faults folder.new) }
 {
     let mut here = root_standing(alloc, folder, vault)?;
     let mut front = PlainPath::root(alloc);
@@ -134,12 +126,10 @@ fn step<F: Folder>(
     name: &Name,
 ) -> Result<Standing, FindFault>
     requires { EntersFit vault.now.vault here }
-    ensures told { F.told folder.new ≡ F.told folder.old }
+    ensures looks { OnlyLooks (F.told folder.old) (F.told folder.new) (result ≡ Err FindFault.Failed) (F.faults folder.old) (F.faults folder.new) }
     ensures stands { IfOk result (λ next. IfSeen (F.told folder.old) (λ v. (rest : List (List ℕ)) → reached_from (format_of vault.now.vault) (under vault.now.root v) front.now (standing_of here) (name.now ∷ rest) ≡ reached_from (format_of vault.now.vault) (under vault.now.root v) (front.now ++ name.now ∷ []) (standing_of next) rest)) }
     ensures fits { IfOk result (λ next. EntersFit vault.now.vault next) }
     ensures fault { IfErr result (λ fault. IfSeen (F.told folder.old) (λ v. (rest : List (List ℕ)) → Refuses vault.now.root (reached_from (format_of vault.now.vault) (under vault.now.root v) front.now (standing_of here) (name.now ∷ rest)) fault)) }
-    ensures grows { F.faults folder.old ≤ F.faults folder.new }
-    ensures failed { result ≡ Err FindFault.Failed → CountRose (F.faults folder.old) (F.faults folder.new) }
 {
     let entered = enter_here(vault, front, here)?;
     Ok(standing_in(alloc, folder, vault, &entered.dir, name)?)

@@ -4,8 +4,7 @@ ghost use Rattle.std.specs.Option.{option_to_list};
 ghost use Rattle.std.specs.Str.{IsUtf8};
 ghost use Rattle.folder_spec.specs.View.{Folder};
 ghost use Rattle.folder_spec.specs.Seen.{IfSeen, under};
-ghost use Rattle.folder_model.specs.Answers.{CountsAbove};
-ghost use Rattle.port_model.specs.Counts.{CountRose};
+ghost use Rattle.folder_model.specs.Answers.{CountsAbove, OnlyLooks};
 ghost use Rattle.vault_spec.specs.Format.{Directory};
 ghost use Rattle.vault_spec.specs.Find as spec;
 ghost use Rattle.vault_spec.specs.Findings.{IsEntryOf};
@@ -66,13 +65,11 @@ pub fn list<F: Folder>(
     vault: &Vault,
     path: &PlainPath,
 ) -> Result<Vec<Item>, FindFault>
-    ensures told { F.told folder.new ≡ F.told folder.old }
+    ensures looks { OnlyLooks (F.told folder.old) (F.told folder.new) (result ≡ Err FindFault.Failed) (F.faults folder.old) (F.faults folder.new) }
     ensures items { IfOk result (λ items. IfSeen (F.told folder.old) (λ v. (dir : Directory)
         × (spec.enter (format_of vault.now.vault) (under vault.now.root v) path.now ≡ Ok dir)
         × AreListed (format_of vault.now.vault) (under vault.now.root v) dir items.items)) }
     ensures fault { IfErr result (λ fault. IfSeen (F.told folder.old) (λ v. Refuses vault.now.root (spec.enter (format_of vault.now.vault) (under vault.now.root v) path.now) fault)) }
-    ensures grows { F.faults folder.old ≤ F.faults folder.new }
-    ensures failed { result ≡ Err FindFault.Failed → CountRose (F.faults folder.old) (F.faults folder.new) }
 {
     what_is_found_stands();
     let entered = enter_at(alloc, folder, vault, path)?;

@@ -1,10 +1,9 @@
 //! Opening a vault: its configuration and its passphrase.
-ghost use Rattle.std.specs.Prelude.{◌≡◌, ◌≢◌, ◌≤◌, ◌<◌, ◌∷◌, ◌++◌, [], ℕ, length, slice_index, IfOk, IfErr, Ok, Err};
+ghost use Rattle.std.specs.Prelude.{◌≡◌, ◌≢◌, ◌<◌, ◌∷◌, ◌++◌, [], ℕ, length, slice_index, IfOk, IfErr, Ok, Err};
 ghost use Rattle.cryptomator_conf.specs.Keys.{AreKeys};
-ghost use Rattle.port_model.specs.Counts.{CountRose};
 ghost use Rattle.folder_spec.specs.Path.{Path, child};
 ghost use Rattle.folder_spec.specs.Seen.{IfSeen, under};
-ghost use Rattle.folder_model.specs.Answers.{CountsAbove};
+ghost use Rattle.folder_model.specs.Answers.{CountsAbove, OnlyLooks};
 ghost use Rattle.vault_spec.specs.Format.{is_file};
 ghost use Rattle.vault_spec.specs.Vault.{LoadsGo, LoadsCm, LoadsBy, Loads, IsVault, TestsGo, TestsCm, UnlocksCm, go_conf, vault_file};
 ghost use Rattle.vault_read.specs.Opened.{vault_of};
@@ -44,12 +43,10 @@ impl Vault {
         root: &FPath,
         pass: &[u8],
     ) -> Result<Vault, LoadFault>
-        ensures told { F.told folder.new ≡ F.told folder.old }
+        ensures looks { OnlyLooks (F.told folder.old) (F.told folder.new) (result ≡ Err LoadFault.Failed) (F.faults folder.old) (F.faults folder.new) }
         ensures root { IfOk result (λ vault. vault.root ≡ root.now) }
         ensures vault { IfOk result (λ vault. IfSeen (F.told folder.old) (λ v. IsVault (under root.now v) pass.now vault.vault)) }
         ensures fault { IfErr result (λ fault. IfSeen (F.told folder.old) (λ v. Refuses root.now (Loads (under root.now v) pass.now) fault)) }
-        ensures grows { F.faults folder.old ≤ F.faults folder.new }
-        ensures failed { result ≡ Err LoadFault.Failed → CountRose (F.faults folder.old) (F.faults folder.new) }
     {
         let keys = load_keys(alloc, folder, root, pass)?;
         Ok(Vault::new(root.copy()?, keys))
@@ -63,11 +60,9 @@ fn load_keys<F: Folder>(
     root: &FPath,
     pass: &[u8],
 ) -> Result<VaultKeys, LoadFault>
-    ensures told { F.told folder.new ≡ F.told folder.old }
+    ensures looks { OnlyLooks (F.told folder.old) (F.told folder.new) (result ≡ Err LoadFault.Failed) (F.faults folder.old) (F.faults folder.new) }
     ensures keys { IfOk result (λ keys. IfSeen (F.told folder.old) (λ v. IsVault (under root.now v) pass.now (vault_of keys))) }
     ensures fault { IfErr result (λ fault. IfSeen (F.told folder.old) (λ v. Refuses root.now (Loads (under root.now v) pass.now) fault)) }
-    ensures grows { F.faults folder.old ≤ F.faults folder.new }
-    ensures failed { result ≡ Err LoadFault.Failed → CountRose (F.faults folder.old) (F.faults folder.new) }
 {
     match folder.kind(root)? {
         Kind::Missing => Err(LoadFault::Missing(root.copy()?)),
@@ -84,11 +79,9 @@ fn load_from<F: Folder>(
     root: &FPath,
     pass: &[u8],
 ) -> Result<VaultKeys, LoadFault>
-    ensures told { F.told folder.new ≡ F.told folder.old }
+    ensures looks { OnlyLooks (F.told folder.old) (F.told folder.new) (result ≡ Err LoadFault.Failed) (F.faults folder.old) (F.faults folder.new) }
     ensures keys { IfOk result (λ keys. IfSeen (F.told folder.old) (λ v. LoadsBy (v (root.now ++ go_conf)) (v (root.now ++ vault_file)) (under root.now v) pass.now (Ok (vault_of keys)))) }
     ensures fault { IfErr result (λ fault. IfSeen (F.told folder.old) (λ v. Refuses root.now (LoadsBy (v (root.now ++ go_conf)) (v (root.now ++ vault_file)) (under root.now v) pass.now) fault)) }
-    ensures grows { F.faults folder.old ≤ F.faults folder.new }
-    ensures failed { result ≡ Err LoadFault.Failed → CountRose (F.faults folder.old) (F.faults folder.new) }
 {
     match kind_of_root(folder, root)? {
         VaultKind::Gocryptfs => load_go(alloc, folder, root, pass),
@@ -125,11 +118,9 @@ fn load_go<F: Folder>(
     root: &FPath,
     pass: &[u8],
 ) -> Result<VaultKeys, LoadFault>
-    ensures told { F.told folder.new ≡ F.told folder.old }
+    ensures looks { OnlyLooks (F.told folder.old) (F.told folder.new) (result ≡ Err LoadFault.Failed) (F.faults folder.old) (F.faults folder.new) }
     ensures keys { IfOk result (λ keys. IfSeen (F.told folder.old) (λ v. LoadsGo (under root.now v) pass.now (Ok (vault_of keys)))) }
     ensures fault { IfErr result (λ fault. IfSeen (F.told folder.old) (λ v. Refuses root.now (LoadsGo (under root.now v) pass.now) fault)) }
-    ensures grows { F.faults folder.old ≤ F.faults folder.new }
-    ensures failed { result ≡ Err LoadFault.Failed → CountRose (F.faults folder.old) (F.faults folder.new) }
 {
     let bytes = read_configuration(alloc, folder, root, GO_CONF)?;
     unlock_go(alloc, root, bytes.as_slice(), pass)
@@ -141,11 +132,9 @@ fn load_cm<F: Folder>(
     root: &FPath,
     pass: &[u8],
 ) -> Result<VaultKeys, LoadFault>
-    ensures told { F.told folder.new ≡ F.told folder.old }
+    ensures looks { OnlyLooks (F.told folder.old) (F.told folder.new) (result ≡ Err LoadFault.Failed) (F.faults folder.old) (F.faults folder.new) }
     ensures keys { IfOk result (λ keys. IfSeen (F.told folder.old) (λ v. LoadsCm (under root.now v) pass.now (Ok (vault_of keys)))) }
     ensures fault { IfErr result (λ fault. IfSeen (F.told folder.old) (λ v. Refuses root.now (LoadsCm (under root.now v) pass.now) fault)) }
-    ensures grows { F.faults folder.old ≤ F.faults folder.new }
-    ensures failed { result ≡ Err LoadFault.Failed → CountRose (F.faults folder.old) (F.faults folder.new) }
 {
     let master = read_configuration(alloc, folder, root, MASTER_FILE)?;
     let vault = read_configuration(alloc, folder, root, VAULT_FILE)?;
@@ -159,11 +148,9 @@ fn read_configuration<F: Folder>(
     root: &FPath,
     name: &str,
 ) -> Result<Bytes, LoadFault>
-    ensures told { F.told folder.new ≡ F.told folder.old }
+    ensures looks { OnlyLooks (F.told folder.old) (F.told folder.new) (result ≡ Err LoadFault.Failed) (F.faults folder.old) (F.faults folder.new) }
     ensures bytes { IfOk result (λ bytes. IfSeen (F.told folder.old) (λ v. IsFileAt (v (child root.now name.now)) bytes)) }
     ensures fault { IfErr result (λ fault. IfSeen (F.told folder.old) (λ v. Refuses root.now (LacksFile (name.now ∷ []) (v (child root.now name.now))) fault)) }
-    ensures grows { F.faults folder.old ≤ F.faults folder.new }
-    ensures failed { result ≡ Err LoadFault.Failed → CountRose (F.faults folder.old) (F.faults folder.new) }
 {
     let at = root.child(name)?;
     match read_small(alloc, folder, &at, MAX_SIZE)? {

@@ -1,10 +1,9 @@
 //! Reading a content file chunk by chunk.
 ghost use Rattle.std.specs.Prelude.{◌≡◌, ◌+◌, ◌≤◌, ◌<◌, ℕ, List, IfOk, IfErr, OnOk, OnErr, Ok, Err, true, false, length};
-ghost use Rattle.port_model.specs.Counts.{CountRose};
 ghost use Rattle.chunk_files.specs.Decoding.{started, IsPlaced};
 ghost use Rattle.folder_spec.specs.View.{FileOf};
 ghost use Rattle.folder_spec.specs.Seen.{IfSeen, ShowsFile};
-ghost use Rattle.folder_model.specs.Answers.{CountsAbove};
+ghost use Rattle.folder_model.specs.Answers.{CountsAbove, OnlyLooks};
 ghost use Rattle.vault_spec.specs.Vault.{format_of};
 ghost use Rattle.vault_read.specs.Contents.{limited_reading, Suits, IsBeingRead, still, Gives, IsReaderFault};
 ghost use Rattle.vault_faults.specs.Limits.{content_limit};
@@ -79,7 +78,7 @@ impl ContentReader {
     /// The file has to stay as it is while it is read.
     pub fn next<F: Folder>(&mut self, folder: &mut F, out: &mut ChunkBuf) -> Result<usize, CatFault>
         requires { IfSeen (F.told folder.old) (λ v. IsBeingRead v self.old.at self.old.decoding) }
-        ensures told { F.told folder.new ≡ F.told folder.old }
+        ensures looks { OnlyLooks (F.told folder.old) (F.told folder.new) (result ≡ Err CatFault.Failed) (F.faults folder.old) (F.faults folder.new) }
         ensures at { self.new.at ≡ self.old.at }
         ensures keys { self.new.decoding.keys ≡ self.old.decoding.keys }
         ensures suits { IfSeen (F.told folder.old) (λ v. IsBeingRead v self.new.at self.new.decoding) }
@@ -89,8 +88,6 @@ impl ContentReader {
         ensures number { IfOk result (λ n. 0 < n → self.old.decoding.number < self.new.decoding.number) }
         ensures few { self.new.decoding.number ≤ content_limit }
         ensures fault { IfErr result (λ fault. IsReaderFault self.old.at fault) }
-        ensures grows { F.faults folder.old ≤ F.faults folder.new }
-        ensures failed { result ≡ Err CatFault.Failed → CountRose (F.faults folder.old) (F.faults folder.new) }
     {
         let given = next_given(folder, &self.at, &mut self.decoder, &mut self.taken, out)?;
         answer_of(&self.at, given)

@@ -11,7 +11,7 @@ use Rattle.vault_read.proofs.content.cat.Goals as goal
 pub write_all-requires : goal.write_all-requires
 write_all-requires g c = record {
   file = λ v seen.
-      let place = c.in_ok-at.ensures.place v (subst (λ t. IsSeen t v) c.in_ok-at.ensures.told seen) in
+      let place = c.in_ok-at.ensures.place v (subst (λ t. IsSeen t v) c.in_ok-at.ensures.looks.told seen) in
       let same : c.in_ok-reader.reader.at ≡ c.in_ok-at.at = ap (λ (r : Reader). r.at) c.in_ok-reader.ensures.reader in
       (place.3.0, ap v same ∙ place.3.1, c.in_ok-reader.ensures.suits place.3.0);
 }
@@ -43,7 +43,7 @@ returns-clause-cats g c = λ v seen.
     let file : v reader.at ≡ FileOf bytes = ap v same ∙ place.3.1 in
     cats_read (format_of vault.vault) vault.root v c.args.path.now c.write_all.result (g.O.Sink.taken c.args.out.now) (g.O.Sink.taken c.write_all.new.out) reader.at (still reader.decoding bytes)
     (record { rest = place.0; bytes = bytes; stands = place.2; place = same ∙ place.1; file = file; gives = c.in_ok-reader.ensures.still bytes })
-    (c.write_all.ensures.writes v (subst (λ t. IsSeen t v) (sym c.in_ok-at.ensures.told) seen) bytes file)
+    (c.write_all.ensures.writes v (subst (λ t. IsSeen t v) (sym c.in_ok-at.ensures.looks.told) seen) bytes file)
 
 pub returns-in_err-at-clause-nothing : goal.returns-in_err-at-clause-nothing
 returns-in_err-at-clause-nothing g c = λ fault is. Keeps-refl (g.O.Sink.taken c.args.out.now)

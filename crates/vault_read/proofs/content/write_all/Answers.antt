@@ -34,7 +34,7 @@ chunks-preserved g c =
     let some : 0 < n = omega (arith, c.if-count-eq0.false) in
     let size : length c.next.new.out ≡ 32816 = ap length (sym c.bytes.ensures.value) ∙ c.bytes.ensures.size in
     record {
-      told = e.told ∙ i.told;
+      told = e.looks.told ∙ i.told;
       at = e.at ∙ i.at;
       file = λ v seen. e.suits v (subst (λ t. IsSeen t v) (sym i.told) seen);
       written = λ v seen bytes file.
@@ -44,7 +44,7 @@ chunks-preserved g c =
           written_bytes (still c.args.reader.now.decoding bytes) (g.O.Sink.taken c.args.out.now) c.chunks.total (g.O.Sink.taken c.chunks.out) n
           c.next.new.out (still c.chunks.reader.decoding bytes) (still c.next.new.self.decoding bytes) (i.written v seen bytes file) some e.size gives (g.O.Sink.taken c.put.new.self) piece;
       fits = omega (arith, i.fits, e.number some, e.size, size);
-      grows = omega (arith, i.grows, e.grows);
+      grows = omega (arith, i.grows, e.looks.blames.grows);
       counted = omega (arith, i.counted, c.in-Ok.ensures.counted);
     }
 

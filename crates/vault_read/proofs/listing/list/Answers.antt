@@ -7,7 +7,7 @@ use Rattle.vault_read.proofs.listing.list.Goals as goal
 pub items_in-requires-clause-folder : goal.items_in-requires-clause-folder
 items_in-requires-clause-folder g c v is =
     folder_stands (format_of c.args.vault.now.vault) (under c.args.vault.now.root v) c.args.path.now c.in_ok-entered.entered.at c.in_ok-entered.entered.dir
-    (c.in_ok-entered.ensures.stands v (subst (λ t. IsSeen t v) c.in_ok-entered.ensures.told is))
+    (c.in_ok-entered.ensures.stands v (subst (λ t. IsSeen t v) c.in_ok-entered.ensures.looks.told is))
 
 pub returns-clause-items : goal.returns-clause-items
 returns-clause-items g c v is =
@@ -16,5 +16,5 @@ returns-clause-items g c v is =
     let dir = c.in_ok-entered.entered.dir in (
       dir,
       (c.what_is_found_stands.ensures.enters f w c.args.path.now dir).1 (record { at = c.in_ok-entered.entered.at; stands = c.in_ok-entered.ensures.stands v is }),
-      c.in_ok-items_in.ensures.items v (subst (λ t. IsSeen t v) (sym c.in_ok-entered.ensures.told) is),
+      c.in_ok-items_in.ensures.items v (subst (λ t. IsSeen t v) (sym c.in_ok-entered.ensures.looks.told) is),
     )

@@ -18,7 +18,7 @@ returns-in_err-vault-clause-fault g c =
     rw (p.1, p.2)
     (λ v is. refuses_as c.args.root.now _ (LoadsCm (under c.args.root.now v) c.args.pass.now) c.in_err-vault.field-0.0
     (λ answer h. lacks_vault c.args.root.now v c.args.pass.now c.in_ok-master.master answer (c.in_ok-master.ensures.bytes v is) h)
-    (c.in_err-vault.ensures.fault v (subst (λ t. IsSeen t v) (sym c.in_ok-master.ensures.told) is)))
+    (c.in_err-vault.ensures.fault v (subst (λ t. IsSeen t v) (sym c.in_ok-master.ensures.looks.told) is)))
 
 pub returns-clause-keys : goal.returns-clause-keys
 returns-clause-keys g c =
@@ -26,7 +26,7 @@ returns-clause-keys g c =
     let pass = c.args.pass.now in
     IfOk-weaker c.unlock_cm.result _ _
     (λ keys tests v is. loads_cm root v pass c.in_ok-master.master c.in_ok-vault.vault (Ok (vault_of keys)) (c.in_ok-master.ensures.bytes v is)
-    (c.in_ok-vault.ensures.bytes v (subst (λ t. IsSeen t v) (sym c.in_ok-master.ensures.told) is)) (rw (c.as_slice.ensures, c.as_slice-2.ensures) at tests)) c.unlock_cm.ensures.keys
+    (c.in_ok-vault.ensures.bytes v (subst (λ t. IsSeen t v) (sym c.in_ok-master.ensures.looks.told) is)) (rw (c.as_slice.ensures, c.as_slice-2.ensures) at tests)) c.unlock_cm.ensures.keys
 
 pub returns-clause-fault : goal.returns-clause-fault
 returns-clause-fault g c =
@@ -35,4 +35,4 @@ returns-clause-fault g c =
     IfErr-weaker c.unlock_cm.result _ _
     (λ fault tests v is. refuses_as root (TestsCm c.as_slice.result.now c.as_slice-2.result.now pass) (LoadsCm (under root v) pass) fault
     (λ answer h. loads_cm root v pass c.in_ok-master.master c.in_ok-vault.vault answer (c.in_ok-master.ensures.bytes v is)
-    (c.in_ok-vault.ensures.bytes v (subst (λ t. IsSeen t v) (sym c.in_ok-master.ensures.told) is)) (rw (c.as_slice.ensures, c.as_slice-2.ensures) at h)) tests) c.unlock_cm.ensures.fault
+    (c.in_ok-vault.ensures.bytes v (subst (λ t. IsSeen t v) (sym c.in_ok-master.ensures.looks.told) is)) (rw (c.as_slice.ensures, c.as_slice-2.ensures) at h)) tests) c.unlock_cm.ensures.fault

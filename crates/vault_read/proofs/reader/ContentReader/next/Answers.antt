@@ -35,5 +35,11 @@ pub returns-clause-fault : goal.returns-clause-fault
 returns-clause-fault g c =
     rw (← c.self.view_is) (answered_fault c.self.inside.at c.in_ok-given.given c.answer_of.result c.answer_of.ensures)
 
-pub returns-clause-failed : goal.returns-clause-failed
-returns-clause-failed g c = λ failed. absurd (answered_well c.self.inside.at c.in_ok-given.given c.answer_of.result c.answer_of.ensures failed)
+pub returns-clause-looks : goal.returns-clause-looks
+returns-clause-looks g c = record {
+  told = c.in_ok-given.ensures.told;
+  blames = record {
+    grows = c.in_ok-given.ensures.counts;
+    rose = λ failed. absurd (answered_well c.self.inside.at c.in_ok-given.given c.answer_of.result c.answer_of.ensures failed);
+  };
+}

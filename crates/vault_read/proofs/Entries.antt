@@ -1,10 +1,11 @@
 -- The item at an entry of a directory, by the text that the entry stands for.
-use Rattle.std.proofs.Common.{◌≡◌, ◌≢◌, ◌≤◌, ℕ, ◌++◌, List, Bool, true, false, cond, Option, Some, None, is_some, IsTrue, length, nat_le, refl, sym, ap, ◌∙◌, subst}
+use Rattle.std.proofs.Common.{◌≡◌, ◌≢◌, ◌≤◌, IfSome, ℕ, ◌++◌, List, Bool, true, false, cond, Option, Some, None, is_some, IsTrue, length, nat_le, refl, sym, ap, ◌∙◌, subst}
 use Rattle.std.proofs.lemmas.Bool.{and_parts, and_from}
 use Rattle.std.proofs.lemmas.Slice.Eq.{bytes_eq-Decides}
 use Rattle.std.specs.Str.{bytes_eq, IsUtf8}
 use Rattle.folder_spec.specs.Path.{Path, child}
-use Rattle.folder_spec.specs.Seen.{under}
+use Rattle.folder_spec.specs.Event.{Told}
+use Rattle.folder_spec.specs.Seen.{IfSeen, under}
 use Rattle.folder_spec.specs.View.{Found, NoEntry, Folder, FileOf, Special, View}
 use Rattle.plain_tree.specs.Names.{is_name}
 use Rattle.plain_tree.specs.declared.NodeKind.{NodeKind}
@@ -17,7 +18,9 @@ use Rattle.vault_spec.specs.Format.{Format, Directory, Item, Nothing, FileItem, 
 use Rattle.vault_spec.specs.Listing.{Listed, node_of}
 use Rattle.vault_spec.specs.Standing.{Standing, Absent, standing_in, standing_of, holds, holds_full, item_at, is_file_of}
 use Rattle.vault_spec.specs.Vault.{Vault, Gocryptfs, Cryptomator, format_of}
-use Rattle.vault_read.specs.Listing.{IsItemAt, IsItemOf, IsNameOf, IsTextAt, TellsNames, has_form, is_entry, is_long, named_item}
+use Rattle.vault_read.specs.Finding.{IsPlace}
+use Rattle.vault_read.specs.Listing.{HasPlace, IsItemAt, IsItemOf, IsNameOf, IsTextAt, TellsNames, has_form, is_entry, is_long, item_found, item_path, named_item}
+use Rattle.vault_read.specs.declared.listing.Found as read
 use Rattle.vault_read.specs.Opened.{kind_of}
 
 -- what is stored of the name of a text: the text is the entry's name, or stands in its own file
@@ -217,24 +220,28 @@ module _ (vault : Vault) (v : View) (dir : Directory) (entry : List ℕ) where
       let behind = text_of_entry long name tells form of_name in
       none name (subst (IsNameOf vault dir.key name) (texts_alike (format_of vault) v dir entry long behind.0 text behind.1 at) behind.2) behind.3
 
+  -- what stands under the name that the entry is of
+  pub item_stands : (long : Bool) (name : List ℕ) (item : Item) → IsEntryOf (format_of vault) v dir entry name → long ≡ is_some (kept name).full
+      → item ≡ (format_of vault).item long (under (child dir.folder entry) v)
+      → standing_in (format_of vault) v dir name ≡ standing_of (format_of vault) v (child dir.folder entry) true item
+  unfolding standing_in
+  item_stands long name item of_name form is_item =
+      let f = format_of vault in
+      let s = kept name in
+      ap (λ b. cond b (standing_of f v (child dir.folder s.name) (holds_full f v dir s) (item_at f v dir s)) Absent) of_name.named
+      ∙ ap (λ b. standing_of f v (child dir.folder s.name) b (item_at f v dir s)) of_name.full
+      ∙ ap (λ b. standing_of f v (child dir.folder s.name) true (f.item b (under (child dir.folder s.name) v))) (sym form)
+      ∙ ap (λ e. standing_of f v (child dir.folder e) true (f.item long (under (child dir.folder e) v))) of_name.stores
+      ∙ ap (standing_of f v (child dir.folder entry) true) (sym is_item)
+
   -- the item of the one name that the entry is of
   pub found_item : (long : Bool) (name : List ℕ) (item : Item) → IsEntryOf (format_of vault) v dir entry name
       → ((other : List ℕ) → IsEntryOf (format_of vault) v dir entry other → other ≡ name) → long ≡ is_some (kept name).full
       → item ≡ (format_of vault).item long (under (child dir.folder entry) v) → IsItemOf (format_of vault) v dir entry (named_item name item)
-  unfolding standing_in
   found_item long name item of_name one form is_item found = (there, back)
     where
       its_node : node_of (standing_in (format_of vault) v dir name) ≡ node_by item
-      its_node =
-          let f = format_of vault in
-          let s = kept name in
-          let place = child dir.folder s.name in
-          ap (λ b. node_of (cond b (standing_of f v place (holds_full f v dir s) (item_at f v dir s)) Absent)) of_name.named
-          ∙ ap (λ b. node_of (standing_of f v place b (item_at f v dir s))) of_name.full
-          ∙ node_named f v place (item_at f v dir s)
-          ∙ ap (λ b. node_by (f.item b (under place v))) (sym form)
-          ∙ ap (λ e. node_by (f.item long (under (child dir.folder e) v))) of_name.stores
-          ∙ ap node_by (sym is_item)
+      its_node = ap (λ x. node_of x) (item_stands long name item of_name form is_item) ∙ node_named (format_of vault) v (child dir.folder entry) item
 
       there : named_item name item ≡ Some found → IsItemAt (format_of vault) v dir entry found
       there e =
@@ -253,3 +260,27 @@ module _ (vault : Vault) (v : View) (dir : Directory) (entry : List ℕ) where
   -- and none, where it is of no name
   pub no_item : ((name : List ℕ) → ¬ IsEntryOf (format_of vault) v dir entry name) → IsItemOf (format_of vault) v dir entry None
   no_item none found = (λ e. cc e, λ a. absurd (none found.name (entry_behind found.name found.node a.stands a.entry_is)))
+
+-- ---- its place
+
+placed : (root : Path) (f : Format) (v : View) (dir : Directory) (at : Path) (name : List ℕ) (item : Item) (one : read.Found) → Some one.item ≡ named_item name item
+    → one.at ≡ root ++ item_path at item → standing_in f v dir name ≡ standing_of f v at true item → HasPlace root f v dir one
+placed root f v dir at name Nothing one is path stands = cc
+placed root f v dir at name (NoItem finding) one is path stands = cc
+placed root f v dir at name (FileItem rest) one is path stands =
+    let same : one.item ≡ record { name = name; node = node.File } = cc in
+    subst (λ x. IsPlace root x (record { at = one.at; node = one.item.node })) (sym (ap (λ (i : Listed). standing_in f v dir i.name) same ∙ stands))
+    (ap (λ (i : Listed). i.node) same, path)
+placed root f v dir at name DirectoryItem one is path stands =
+    let same : one.item ≡ record { name = name; node = node.Dir } = cc in
+    subst (λ x. IsPlace root x (record { at = one.at; node = one.item.node })) (sym (ap (λ (i : Listed). standing_in f v dir i.name) same ∙ stands))
+    (ap (λ (i : Listed). i.node) same, path)
+
+pub found_place : (t : Option Told) (vault : Vault) (root : Path) (dir : Directory) (entry : List ℕ) (long : Bool) (name : List ℕ) (item : Item) (found : Option read.Found)
+    → IfSeen t (λ v. IsEntryOf (format_of vault) (under root v) dir entry name) → long ≡ is_some ((format_of vault).stored dir.key name).full
+    → IfSeen t (λ v. item ≡ (format_of vault).item long (under (child dir.folder entry) (under root v))) → item_found found ≡ named_item name item
+    → IfSome found (λ one. one.at ≡ root ++ item_path (child dir.folder entry) item) → IfSome found (λ one. IfSeen t (λ v. HasPlace root (format_of vault) (under root v) dir one))
+found_place t vault root dir entry long name item None of form item_is is path = tt
+found_place t vault root dir entry long name item (Some one) of form item_is is path =
+    λ v seen. placed root (format_of vault) (under root v) dir (child dir.folder entry) name item one is path
+    (item_stands vault (under root v) dir entry long name item (of v seen) form (item_is v seen))

@@ -5,7 +5,7 @@ use Rattle.std.specs.Option.{option_to_list}
 use Rattle.std.specs.Ordering.{is_eq}
 use Rattle.std.specs.Str.{bytes_eq}
 use Rattle.std.specs.declared.cmp.Ordering.TheVariants.{Less}
-use Rattle.std.proofs.lemmas.List.{get_or_append_left}
+use Rattle.std.proofs.lemmas.List.{get_or_append_left, map-append}
 use Rattle.std.proofs.lemmas.List.Elements.{Contains-append_left, Contains-push, Contains-push_cases, Contains-get_or}
 use Rattle.std.proofs.lemmas.List.Quantifiers.{all_pairs_push}
 use Rattle.std.proofs.lemmas.List.Sorted.{Contains-permutation, IsPermutation-sym}
@@ -25,19 +25,14 @@ use Rattle.plain_tree.specs.declared.NodeKind.{NodeKind}
 use Rattle.vault_spec.specs.Cryptomator.{cm_item_of}
 use Rattle.vault_spec.specs.Gocryptfs.{go_item}
 use Rattle.vault_spec.specs.Format.{Format, Directory, Item, Nothing, FileItem, DirectoryItem, NoItem, is_folder, key_of}
-use Rattle.vault_spec.specs.Listing.{Listed, AreListed, node_of}
+use Rattle.vault_spec.specs.Listing.{Listed, node_of}
 use Rattle.vault_spec.specs.Standing.{Standing, Absent, Strange, File, Dir, directory_with, root_of, standing, standing_from, standing_in, standing_of, holds_full, item_at}
 use Rattle.vault_spec.specs.declared.Lack.TheVariants.{NoFolder}
 use Rattle.vault_spec.specs.Vault.{Vault, Gocryptfs, Cryptomator, format_of}
-use Rattle.vault_read.specs.Listing.{AreSorted, HasItems, IsItemAt, IsItemOf}
-
--- pairs of a front are pairs of the whole
-front_pairs : {X : Type 0} (R : X → X → Type 0) (xs ys : List X) → AllPairs R (xs ++ ys) → AllPairs R xs
-front_pairs R xs ys all i j d less within =
-    let later : i < length xs = omega arith in
-    let sizes : length (xs ++ ys) ≡ length xs + length ys = length-append xs ys in
-    subst (λ x. R x (get_or xs j d)) (get_or_append_left xs ys d i later)
-    (subst (λ y. R (get_or (xs ++ ys) i d) y) (get_or_append_left xs ys d j within) (all i j d less (omega (arith, sizes))))
+use Rattle.vault_spec.proofs.Mapped.{all_pairs_mapped, contains_mapped, mapped_from}
+use Rattle.vault_read.proofs.Sorting.{front_pairs, pairs_from_mapped}
+use Rattle.vault_read.specs.Listing.{AreFound, AreSorted, HasItems, HasPlace, HavePlaces, IsItemAt, IsItemOf, item_found, items_of}
+use Rattle.vault_read.specs.declared.listing.Found as read
 
 module _ (f : Format) (v : View) (dir : Directory) where
   pub none_yet : HasItems f v dir [] []
@@ -126,29 +121,55 @@ less_apart x y less same =
     let equal : bytes_eq x y ≡ true = (bytes_eq-Decides x y).1 same in
     let clash : true ≡ false = sym equal ∙ sym (is_eq-slice_cmp x y) ∙ ap is_eq less in cc
 
+-- ---- with their places
+
+alone : (found : Option read.Found) → items_of (option_to_list found) ≡ option_to_list (item_found found)
+alone None = refl
+alone (Some x) = refl
+
+pub items_more : (all : List read.Found) (found : Option read.Found) → items_of (all ++ option_to_list found) ≡ items_of all ++ option_to_list (item_found found)
+items_more all found = map-append (λ (x : read.Found). x.item) all (option_to_list found) ∙ ap (λ xs. items_of all ++ xs) (alone found)
+
+pub places_more : (root : Path) (f : Format) (v : View) (dir : Directory) (all : List read.Found) (found : Option read.Found) → HavePlaces root f v dir all
+    → ((x : read.Found) → found ≡ Some x → HasPlace root f v dir x) → HavePlaces root f v dir (all ++ option_to_list found)
+places_more root f v dir all None have one = subst (HavePlaces root f v dir) (sym (append-nil all)) have
+places_more root f v dir all (Some x) have one = λ y among. by_case y (Contains-push_cases all x y among)
+  where
+    by_case : (y : read.Found) → Contains all y ⊎ (x ≡ y) → HasPlace root f v dir y
+    by_case y (inl old) = have y old
+    by_case y (inr same) = subst (HasPlace root f v dir) same (one x refl)
+
 -- the items of all entries that a folder shows, in order, are those of the directory
-pub listed : (vault : Vault) (root : Path) (v : View) (dir : Directory) (entries : List folder.Item) (items sorted : List Listed)
-    → IsListing v (root ++ dir.folder) entries → HasItems (format_of vault) (under root v) dir entries items → AreSorted items sorted
-    → AreListed (format_of vault) (under root v) dir sorted
-listed vault root v dir entries items sorted listing has order = record {
-  ordered = order.ordered (has.apart (λ i j d less within. less_apart (get_or entries i d).name (get_or entries j d).name (listing.ordered i j d less within)));
-  items = λ item. (there item, back item);
+pub listed : (vault : Vault) (root : Path) (v : View) (dir : Directory) (entries : List folder.Item) (found sorted : List read.Found)
+    → IsListing v (root ++ dir.folder) entries → HasItems (format_of vault) (under root v) dir entries (items_of found)
+    → HavePlaces root (format_of vault) (under root v) dir found → AreSorted found sorted → AreFound root (format_of vault) (under root v) dir sorted
+listed vault root v dir entries found sorted listing has places order = record {
+  listed = record {
+    ordered = all_pairs_mapped (λ (x y : Listed). name_cmp x.name y.name ≡ Less) (λ (x : read.Found). x.item) sorted
+        (order.ordered (pairs_from_mapped (λ (x y : Listed). x.name ≢ y.name) (λ (x : read.Found). x.item) found
+        (has.apart (λ i j d less within. less_apart (get_or entries i d).name (get_or entries j d).name (listing.ordered i j d less within)))));
+    items = λ item. (there item, back item);
+  };
+  places = λ x among. places x (Contains-permutation sorted found x (IsPermutation-sym found sorted order.same) among);
 }
   where
-    f : Format
-    f = format_of vault
+    there : (item : Listed) → Contains (items_of sorted) item → node_of (standing_in (format_of vault) (under root v) dir item.name) ≡ Some item.node
+    there item among =
+        let x = mapped_from (λ (x : read.Found). x.item) sorted item among in
+        let before : Contains (items_of found) x.0.item
+        = contains_mapped (λ (x : read.Found). x.item) found x.0 (Contains-permutation sorted found x.0 (IsPermutation-sym found sorted order.same) x.1) in
+        (has.sound item (subst (Contains (items_of found)) x.2 before)).2.stands
 
-    there : (item : Listed) → Contains sorted item → node_of (standing_in (format_of vault) (under root v) dir item.name) ≡ Some item.node
-    there item among = (has.sound item (Contains-permutation sorted items item (IsPermutation-sym items sorted order.same) among)).2.stands
-
-    back : (item : Listed) → node_of (standing_in (format_of vault) (under root v) dir item.name) ≡ Some item.node → Contains sorted item
+    back : (item : Listed) → node_of (standing_in (format_of vault) (under root v) dir item.name) ≡ Some item.node → Contains (items_of sorted) item
     back item stands =
         let name = ((format_of vault).stored dir.key item.name).name in
         let entry : folder.Item = record { name = name; kind = kind_found (v (child (root ++ dir.folder) name)) } in
         let there : kind_found (v (child (root ++ dir.folder) name)) ≢ Missing
         = λ gone. entry_stands vault (under root v) dir item.name item.node stands
         (ap v (sym (append_assoc root dir.folder (name ∷ []))) ∙ missing_where (v (child (root ++ dir.folder) name)) gone) in
-        Contains-permutation items sorted item order.same (has.complete entry item ((listing.entries entry).1 (there, refl)) (record { stands = stands; entry_is = refl }))
+        let x = mapped_from (λ (x : read.Found). x.item) found item
+        (has.complete entry item ((listing.entries entry).1 (there, refl)) (record { stands = stands; entry_is = refl })) in
+        subst (Contains (items_of sorted)) x.2 (contains_mapped (λ (x : read.Found). x.item) sorted x.0 (Contains-permutation found sorted x.0 order.same x.1))
 
 -- a directory that is entered has a folder
 folder_found : (x : Found) → is_folder x ≡ true → x ≡ Folder

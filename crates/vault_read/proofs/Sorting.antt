@@ -1,5 +1,6 @@
--- What is sorted is in order, where no two are alike.
-use Rattle.std.proofs.Common.{◌≡◌, ◌≢◌, ◌⊎◌, inl, inr, ℕ, ◌<◌, List, false, length, get_or, refl, sym, ap, ◌∙◌, subst, arith}
+-- Pairs of a list. What is sorted is in order, where no two are alike.
+use Rattle.std.proofs.Common.{◌≡◌, ◌≢◌, ◌⊎◌, inl, inr, ℕ, ◌<◌, ◌+◌, ◌++◌, List, false, map, length, length-append, get_or, refl, sym, ap, ◌∙◌, subst, subst₂, arith}
+use Rattle.std.proofs.lemmas.List.{get_or_append_left, get_or-map, length-map}
 use Rattle.std.specs.Prelude.{AllPairs}
 use Rattle.std.specs.List.{swap}
 use Rattle.std.specs.List.Sorted.{IsPermutation, IsSortedBy}
@@ -10,6 +11,22 @@ use Rattle.std.specs.declared.cmp.Ordering.TheVariants.{Less, Equal, Greater}
 use Rattle.std.proofs.lemmas.Bool.{cases_eq, cases_order}
 use Rattle.std.proofs.lemmas.List.Edits.{Swapped, length-swap, swapped_from_swap}
 use Rattle.std.proofs.lemmas.List.Sorted.{IsPermutation-keeps, ranks_by, sorted_far}
+
+-- pairs of a front are pairs of the whole
+pub front_pairs : {X : Type 0} (R : X → X → Type 0) (xs ys : List X) → AllPairs R (xs ++ ys) → AllPairs R xs
+front_pairs R xs ys all i j d less within =
+    let later : i < length xs = omega arith in
+    let sizes : length (xs ++ ys) ≡ length xs + length ys = length-append xs ys in
+    subst (λ x. R x (get_or xs j d)) (get_or_append_left xs ys d i later)
+    (subst (λ y. R (get_or (xs ++ ys) i d) y) (get_or_append_left xs ys d j within) (all i j d less (omega (arith, sizes))))
+
+-- and those of what is made of a list's elements are pairs of these
+pub pairs_from_mapped : {A B : Type 0} (R : B → B → Type 0) (f : A → B) (xs : List A) → AllPairs R (map f xs) → AllPairs (λ x y. R (f x) (f y)) xs
+pairs_from_mapped R f xs pairs i j d below less =
+    let size : length (map f xs) ≡ length xs = length-map xs f in
+    let both : i < j = below in
+    let end : j < length xs = less in
+    subst₂ R (get_or-map f xs i d (f d) (omega (arith, both, end))) (get_or-map f xs j d (f d) end) (pairs i j (f d) both (omega (arith, size, end)))
 
 -- where an element stood before two changed places
 abbrev Origin : ℕ → ℕ → ℕ → ℕ → Type 0

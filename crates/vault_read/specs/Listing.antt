@@ -1,10 +1,11 @@
 -- The items of a directory, by the entries of its folder.
-use Rattle.std.specs.Prelude.{◌≡◌, ◌≢◌, ◌↔◌, ◌≤◌, ℕ, Bool, true, false, ◌&&◌, not, List, ◌++◌, length, codes, nat_eq, Option, Some, None, is_some, IsTrue, AllPairs, Contains}
+use Rattle.std.specs.Prelude.{◌≡◌, ◌≢◌, ◌↔◌, ◌≤◌, ℕ, Bool, true, false, ◌&&◌, not, List, ◌++◌, length, map, codes, nat_eq, Option, Some, None, is_some, IsTrue, AllPairs, Contains}
 use Rattle.std.specs.List.{starts_with, ends_with}
 use Rattle.std.specs.List.Sorted.{IsPermutation}
 use Rattle.std.specs.Str.{bytes_eq, IsUtf8}
 use Rattle.std.specs.declared.cmp.Ordering.TheVariants.{Less}
 use Rattle.folder_spec.specs.Listing as folder
+use Rattle.folder_spec.specs.Path.{Path}
 use Rattle.folder_spec.specs.View.{View, FileOf}
 use Rattle.plain_tree.specs.Names.{is_name}
 use Rattle.plain_tree.specs.Order.{name_cmp}
@@ -13,10 +14,12 @@ use Rattle.vault_names.specs.Cryptomator.{IsCmTextOf, cm_entry_of}
 use Rattle.vault_names.specs.Gocryptfs.{IsTextOf, entry_of}
 use Rattle.vault_names.specs.declared.entry.Stored.{Stored}
 use Rattle.vault_spec.specs.Format.{Format, Directory, Item, Nothing, FileItem, DirectoryItem, NoItem}
-use Rattle.vault_spec.specs.Listing.{Listed, node_of}
+use Rattle.vault_spec.specs.Listing.{AreListed, Listed, node_of}
 use Rattle.vault_spec.specs.Standing.{standing_in}
 use Rattle.vault_spec.specs.Vault.{Vault, Gocryptfs, Cryptomator, format_of}
+use Rattle.vault_read.specs.Finding.{IsPlace}
 use Rattle.vault_read.specs.Opened.{kind_of}
+use Rattle.vault_read.specs.declared.listing.Found.{Found}
 use Rattle.vault_read.specs.declared.vault.VaultKind.{VaultKind}
 use Rattle.vault_read.specs.declared.vault.VaultKind.TheVariants as kind
 
@@ -81,7 +84,36 @@ pub record HasItems (f : Format) (v : View) (dir : Directory) (entries : List fo
   pub complete : (entry : folder.Item) (item : Listed) → Contains entries entry → IsItemAt f v dir entry.name item → Contains items item
   pub apart : AllPairs (λ (x y : folder.Item). x.name ≢ y.name) entries → AllPairs (λ (x y : Listed). x.name ≢ y.name) items
 
+-- ---- items with their places
+
+-- an item that was found, without its place; and those of a list
+abbrev pub item_found : Option Found → Option Listed
+item_found None = None
+item_found (Some found) = Some found.item
+
+abbrev pub items_of : List Found → List Listed
+items_of found = map (λ (x : Found). x.item) found
+
+-- where what an entry stores is, by the entry's path
+abbrev pub item_path : Path → Item → Path
+item_path at Nothing = at
+item_path at (FileItem rest) = at ++ rest
+item_path at DirectoryItem = at
+item_path at (NoItem finding) = at
+
+-- the place of an item of a directory is as looking for its path tells it
+abbrev pub HasPlace : Path → Format → View → Directory → Found → Type 0
+HasPlace root f v dir found = IsPlace root (standing_in f v dir found.item.name) (record { at = found.at; node = found.item.node })
+
+abbrev pub HavePlaces : Path → Format → View → Directory → List Found → Type 0
+HavePlaces root f v dir found = (x : Found) → Contains found x → HasPlace root f v dir x
+
+-- these are the items of a directory in byte order of their names, each with its place
+pub record AreFound (root : Path) (f : Format) (v : View) (dir : Directory) (found : List Found) : Type 0 where
+  pub listed : AreListed f v dir (items_of found)
+  pub places : HavePlaces root f v dir found
+
 -- the same items, in order where they have names of their own
-pub record AreSorted (items sorted : List Listed) : Type 0 where
-  pub same : IsPermutation items sorted
-  pub ordered : AllPairs (λ (x y : Listed). x.name ≢ y.name) items → AllPairs (λ (x y : Listed). name_cmp x.name y.name ≡ Less) sorted
+pub record AreSorted (found sorted : List Found) : Type 0 where
+  pub same : IsPermutation found sorted
+  pub ordered : AllPairs (λ (x y : Found). x.item.name ≢ y.item.name) found → AllPairs (λ (x y : Found). name_cmp x.item.name y.item.name ≡ Less) sorted

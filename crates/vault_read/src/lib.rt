@@ -20,7 +20,7 @@ pub use content::cat;
 pub use fault::LoadFault;
 pub use finding::{DirPlace, Place, enter, find};
 pub use items::{EntryItem, item_at, item_of_kind};
-pub use listing::{Item, NameAt, list, name_at};
+pub use listing::{Found, Item, NameAt, items_in, list, name_at};
 pub use looking::{SmallFile, kind_under, read_small};
 pub use reader::ContentReader;
 pub use standing::{Directory, Standing, key_at, root_standing};

@@ -11,17 +11,18 @@ ghost use Rattle.vault_spec.specs.Findings.{IsEntryOf};
 ghost use Rattle.vault_spec.specs.Listing.{Listed, AreListed};
 ghost use Rattle.vault_spec.specs.Vault.{format_of};
 ghost use Rattle.vault_read.specs.Opened.{FitsKey};
+ghost use Rattle.vault_read.specs.Contents.{IsOfPath};
 ghost use Rattle.vault_read.specs.Finding.{Refuses};
 ghost use Rattle.vault_read.specs.Items.{item_of};
-ghost use Rattle.vault_read.specs.Listing.{AreSorted, HasItems, IsItemOf, IsNameOf, IsTextAt, TellsNames, has_form, is_entry, is_long, named_item, stored_by};
+ghost use Rattle.vault_read.specs.Listing.{AreFound, AreSorted, HasItems, HasPlace, HavePlaces, IsItemOf, IsNameOf, IsTextAt, TellsNames, has_form, is_entry, is_long, item_found, item_path, items_of, named_item, stored_by};
 ghost use Rattle.vault_read.specs.declared.looking.SmallFile.TheVariants.{Whole};
 
 use crate::finding::enter_at;
-use crate::items::{EntryItem, item_at};
+use crate::items::{CONTENT_FILE, EntryItem, item_at};
 use crate::looking::{SmallFile, read_under};
 use crate::standing::{Directory, full_path};
 use crate::vault::{OpenedKeys, Vault, VaultKind};
-use folder_model::{Entry, Folder};
+use folder_model::{Entry, FPath, Folder};
 use folder_spec::FolderFault;
 use plain_tree::{Name, NodeKind, PlainPath};
 use std::alloc::{AllocError, Global};
@@ -33,7 +34,7 @@ use vault_names::laws::{
 };
 use vault_names::{NameFault, Stored, cm_entry, go_entry};
 use vault_spec::laws::what_is_found_stands;
-use vault_values::Text;
+use vault_values::{Bytes, Text};
 
 const LONG_START: &str = "gocryptfs.longname.";
 
@@ -57,6 +58,14 @@ impl Model for Item {
     ghost view = { λ item. record { name = item.name; node = item.node } };
 }
 
+/// An item of a directory, and its path in the folder as a `Place` has it: the entry of a directory, and for a file the file of its
+/// content.
+#[derive(Drop)]
+pub struct Found {
+    pub item: Item,
+    pub at: FPath,
+}
+
 /// The items of the directory at a plain path, in byte order of their names. What stands in it and is no item is passed over.
 /// It refuses as `enter` does.
 pub fn list<F: Folder>(
@@ -73,7 +82,32 @@ pub fn list<F: Folder>(
 {
     what_is_found_stands();
     let entered = enter_at(alloc, folder, vault, path)?;
-    Ok(items_in(alloc, folder, vault, &entered.dir)?)
+    let found = found_in(alloc, folder, vault, &entered.dir)?;
+    let items = without_places(alloc, found)?;
+    Ok(items)
+}
+
+/// The items that a folder holds when the names of its entries are read with a directory's key, in byte order of their names, each with
+/// its place. The folder's path begins at the vault's root, and no entry has to lead there. In a gocryptfs vault the key has 16 bytes.
+pub fn items_in<F: Folder>(
+    alloc: Global,
+    folder: &mut F,
+    vault: &Vault,
+    at: &FPath,
+    key: &[u8],
+) -> Result<Vec<Found>, FindFault>
+    requires fits { FitsKey vault.now.vault key.now }
+    requires folder { IfSeen (F.told folder.old) (λ v. under vault.now.root v at.now ≡ Folder) }
+    ensures looks { OnlyLooks (F.told folder.old) (F.told folder.new) (result ≡ Err FindFault.Failed) (F.faults folder.old) (F.faults folder.new) }
+    ensures items { IfOk result (λ found. IfSeen (F.told folder.old) (λ v. AreFound vault.now.root (format_of vault.now.vault) (under vault.now.root v) (record { folder = at.now; key = key.now }) found.items)) }
+    ensures fault { IfErr result (λ fault. ¬ IsOfPath fault) }
+{
+    let dir = Directory {
+        folder: at.copy()?,
+        key: Bytes::new(key.to_vec(alloc)?),
+    };
+    let found = found_in(alloc, folder, vault, &dir)?;
+    Ok(found)
 }
 
 /// The name that an entry stands for, and whether it is long: whether its text stands in a file of its own.
@@ -112,60 +146,72 @@ pub fn name_at<F: Folder>(
     Ok(Some(NameAt { name, long }))
 }
 
-// The items of a directory, in byte order of their names.
-fn items_in<F: Folder>(
+// The items of a directory with their places, in byte order of their names.
+fn found_in<F: Folder>(
     alloc: Global,
     folder: &mut F,
     vault: &Vault,
     dir: &Directory,
-) -> Result<Vec<Item>, FolderFault>
+) -> Result<Vec<Found>, FolderFault>
     requires fits { FitsKey vault.now.vault dir.now.key }
     requires folder { IfSeen (F.told folder.old) (λ v. under vault.now.root v dir.now.folder ≡ Folder) }
     ensures told { F.told folder.new ≡ F.told folder.old }
-    ensures items { IfOk result (λ items. IfSeen (F.told folder.old) (λ v. AreListed (format_of vault.now.vault) (under vault.now.root v) dir.now items.items)) }
+    ensures items { IfOk result (λ found. IfSeen (F.told folder.old) (λ v. AreFound vault.now.root (format_of vault.now.vault) (under vault.now.root v) dir.now found.items)) }
     ensures counts { CountsAbove (F.faults folder.old) (F.faults folder.new) result }
 {
     let at = vault.root().joined(&dir.folder)?;
     let entries = folder.list(&at)?;
-    let items = items_of(alloc, folder, vault, dir, entries.as_slice())?;
-    Ok(sorted(items))
+    let found = found_at(alloc, folder, vault, dir, entries.as_slice())?;
+    Ok(sorted(found))
 }
 
 // The same items in byte order of their names.
-fn sorted(mut items: Vec<Item>) -> Vec<Item>
-    ensures { AreSorted items.items result.items }
+fn sorted(mut found: Vec<Found>) -> Vec<Found>
+    ensures { AreSorted found.items result.items }
 {
-    items.sort_unstable_by(|one, other| one.name.cmp(&other.name));
-    items
+    found.sort_unstable_by(|one, other| one.item.name.cmp(&other.item.name));
+    found
 }
 
-// The items of these entries of a directory's folder, in the entries' order.
-fn items_of<F: Folder>(
+// The items alone.
+fn without_places(alloc: Global, found: Vec<Found>) -> Result<Vec<Item>, AllocError>
+    ensures { IfOk result (λ items. items.items ≡ items_of found.items) }
+{
+    let mut items = Vec::new(alloc);
+    for one in found {
+        items.push(one.item)?;
+    }
+    Ok(items)
+}
+
+// The items at these entries of a directory's folder, in the entries' order.
+fn found_at<F: Folder>(
     alloc: Global,
     folder: &mut F,
     vault: &Vault,
     dir: &Directory,
     entries: &[Entry],
-) -> Result<Vec<Item>, FolderFault>
+) -> Result<Vec<Found>, FolderFault>
     requires { FitsKey vault.now.vault dir.now.key }
     ensures told { F.told folder.new ≡ F.told folder.old }
-    ensures items { IfOk result (λ items. IfSeen (F.told folder.old) (λ v. HasItems (format_of vault.now.vault) (under vault.now.root v) dir.now entries.now items.items)) }
+    ensures items { IfOk result (λ found. IfSeen (F.told folder.old) (λ v. HasItems (format_of vault.now.vault) (under vault.now.root v) dir.now entries.now (items_of found.items))) }
+    ensures places { IfOk result (λ found. IfSeen (F.told folder.old) (λ v. HavePlaces vault.now.root (format_of vault.now.vault) (under vault.now.root v) dir.now found.items)) }
     ensures counts { CountsAbove (F.faults folder.old) (F.faults folder.new) result }
 {
-    let mut items = Vec::new(alloc);
+    let mut all = Vec::new(alloc);
     for entry in entries {
         let found = entry_item(alloc, folder, vault, dir, entry.name.as_str())?;
-        add(&mut items, found)?;
+        add(&mut all, found)?;
     }
-    Ok(items)
+    Ok(all)
 }
 
 // Adds the item, if there is one.
-fn add(items: &mut Vec<Item>, found: Option<Item>) -> Result<(), AllocError>
-    ensures { OnOk result (items.new.items ≡ items.old.items ++ option_to_list found) }
+fn add(all: &mut Vec<Found>, found: Option<Found>) -> Result<(), AllocError>
+    ensures { OnOk result (all.new.items ≡ all.old.items ++ option_to_list found) }
 {
-    if let Some(item) = found {
-        items.push(item)?;
+    if let Some(one) = found {
+        all.push(one)?;
     }
     Ok(())
 }
@@ -177,41 +223,52 @@ fn entry_item<F: Folder>(
     vault: &Vault,
     dir: &Directory,
     entry: &str,
-) -> Result<Option<Item>, FolderFault>
+) -> Result<Option<Found>, FolderFault>
     requires { FitsKey vault.now.vault dir.now.key }
     ensures told { F.told folder.new ≡ F.told folder.old }
-    ensures item { IfOk result (λ found. IfSeen (F.told folder.old) (λ v. IsItemOf (format_of vault.now.vault) (under vault.now.root v) dir.now entry.now found)) }
+    ensures item { IfOk result (λ found. IfSeen (F.told folder.old) (λ v. IsItemOf (format_of vault.now.vault) (under vault.now.root v) dir.now entry.now (item_found found))) }
+    ensures place { IfOk result (λ found. IfSome found (λ one. IfSeen (F.told folder.old) (λ v. HasPlace vault.now.root (format_of vault.now.vault) (under vault.now.root v) dir.now one))) }
     ensures counts { CountsAbove (F.faults folder.old) (F.faults folder.new) result }
 {
-    let Some(found) = name_at(alloc, folder, vault, dir, entry)? else {
+    let Some(named) = name_at(alloc, folder, vault, dir, entry)? else {
         return Ok(None);
     };
-    let NameAt { name, long } = found;
+    let NameAt { name, long } = named;
     let at = dir.folder.child(entry)?;
     let item = item_at(folder, vault, &at, long)?;
-    Ok(named_item(name, item))
+    let found = named_item(vault.root(), &at, name, item)?;
+    Ok(found)
 }
 
-// The item with this name, if an item stands at its entry.
-fn named_item(name: Name, item: EntryItem) -> Option<Item>
-    ensures { result ≡ named_item name (item_of item) }
+// The item with this name and its place, if an item stands at its entry, which is at a path.
+fn named_item(
+    root: &FPath,
+    at: &FPath,
+    name: Name,
+    item: EntryItem,
+) -> Result<Option<Found>, AllocError>
+    ensures item { IfOk result (λ found. item_found found ≡ named_item name (item_of item)) }
+    ensures place { IfOk result (λ found. IfSome found (λ one. one.at ≡ root.now ++ item_path at.now (item_of item))) }
 {
     match item {
-        EntryItem::EntryFile => Some(Item {
-            name,
-            node: NodeKind::File,
-        }),
-        EntryItem::ContentFile => Some(Item {
-            name,
-            node: NodeKind::File,
-        }),
-        EntryItem::Directory => Some(Item {
-            name,
-            node: NodeKind::Dir,
-        }),
-        EntryItem::Nothing => None,
-        EntryItem::NoItem(_) => None,
+        EntryItem::EntryFile => Ok(Some(placed_item(root, at, name, NodeKind::File)?)),
+        EntryItem::ContentFile => {
+            let content = at.child(CONTENT_FILE)?;
+            Ok(Some(placed_item(root, &content, name, NodeKind::File)?))
+        }
+        EntryItem::Directory => Ok(Some(placed_item(root, at, name, NodeKind::Dir)?)),
+        EntryItem::Nothing => Ok(None),
+        EntryItem::NoItem(_) => Ok(None),
     }
+}
+
+// The item with this name, placed at a path behind the root.
+fn placed_item(root: &FPath, at: &FPath, name: Name, node: NodeKind) -> Result<Found, AllocError>
+    ensures { IfOk result (λ found. found ≡ record { item = record { name = name; node = node }; at = root.now ++ at.now }) }
+{
+    let at = root.joined(at)?;
+    let item = Item { name, node };
+    Ok(Found { item, at })
 }
 
 // Whether an entry has the name of a long one.

@@ -1,8 +1,9 @@
 //! Opened vaults.
-ghost use Rattle.std.specs.Prelude.{◌≡◌, ◌++◌, [], length, IfOk, IsTrue, string_bytes};
+ghost use Rattle.std.specs.Prelude.{◌≡◌, ◌↔◌, ◌++◌, [], length, IfOk, IsTrue, string_bytes};
 ghost use Rattle.std.specs.List.{list_all};
 ghost use Rattle.vault_names.specs.Gocryptfs as gocryptfs;
 ghost use Rattle.vault_names.specs.Base32.{is_base32};
+ghost use Rattle.vault_spec.specs.Making.{Allows};
 ghost use Rattle.vault_spec.specs.Vault.{format_of};
 ghost use Rattle.vault_spec.specs.Cryptomator as cryptomator;
 ghost use Rattle.vault_read.specs.Opened.{FitsKey, IsCryptomator, kind_of, vault_of, vault_with};
@@ -189,6 +190,16 @@ impl Vault {
         ensures { result.now ≡ self.now.root }
     {
         &self.root
+    }
+
+    /// Whether the vault allows a name: a Cryptomator vault those in Unicode's normalization form C, a gocryptfs vault all.
+    pub fn allows(&self, name: &Name) -> Result<bool, AllocError>
+        ensures { IfOk result (λ yes. IsTrue yes ↔ Allows (format_of self.now.vault) name.now) }
+    {
+        match self.kind() {
+            VaultKind::Gocryptfs => Ok(true),
+            VaultKind::Cryptomator => name.is_nfc(),
+        }
     }
 
     /// The keys and the layout of the vault's contents. It takes no memory.

@@ -1,38 +1,8 @@
-use Rattle.std.proofs.Common.{◌≡◌, ◌++◌, Vec, Global, sym, ap, ◌∙◌, subst, arith}
 use Rattle.std.proofs.lemmas.Result.{err_from_is_err_and}
-use Rattle.folder_model.proofs.Counting.{counts_at_fault}
-use Rattle.folder_spec.specs.Listing.{Item, IsListing}
-use Rattle.folder_spec.specs.Seen.{IsSeen, under}
-use Rattle.folder_spec.specs.View.{Folder}
-use Rattle.vault_spec.specs.Format.{Directory}
-use Rattle.vault_spec.specs.Listing.{Listed}
-use Rattle.vault_spec.specs.Vault.{format_of}
-use Rattle.vault_read.specs.Listing.{HasItems}
-use Rattle.vault_read.proofs.Gathering.{listed}
+use Rattle.vault_read.proofs.ListedOrder.{not_of_path}
 use Rattle.vault_read.proofs.listing.items_in.Goals as goal
 
-pub returns-clause-items : goal.returns-clause-items
-returns-clause-items g c v is =
-    let vault = c.args.vault.now.vault in
-    let root = c.args.vault.now.root in
-    let dir : Directory = c.args.dir.now in
-    let entries = c.in_ok-entries.entries.items in
-    let at_is : c.in_ok-at.at ≡ root ++ dir.folder = c.in_ok-at.ensures ∙ ap (λ r. r ++ c.dir.inside.folder) c.root.ensures ∙ ap (λ (d : Directory). root ++ d.folder) c.dir.view_is in
-    listed vault root v dir entries c.in_ok-items.items.items c.sorted.result.items
-    (subst (λ p. IsListing v p entries) at_is (c.in_ok-entries.ensures.answer v is).1)
-    (subst (λ es. HasItems (format_of vault) (under root v) dir es c.in_ok-items.items.items) c.as_slice.ensures.value
-    (c.in_ok-items.ensures.items v (subst (λ t. IsSeen t v) (sym c.in_ok-entries.ensures.told) is)))
-    c.sorted.ensures
-
-pub returns-in_err-entries-clause-counts : goal.returns-in_err-entries-clause-counts
-returns-in_err-entries-clause-counts g c =
-    let p = err_from_is_err_and c.from_residual-in_err-entries.result c.from_residual-in_err-entries.ensures.1 in
-    let n0 = g.F.Folder.faults c.args.folder.now in
-    let root = c.args.vault.now.root in
-    let dir : Directory = c.args.dir.now in
-    let at = c.in_ok-at.at in
-    let at_is : at ≡ root ++ dir.folder = c.in_ok-at.ensures ∙ ap (λ r. r ++ c.dir.inside.folder) c.root.ensures ∙ ap (λ (d : Directory). root ++ d.folder) c.dir.view_is in
-    rw (p.1, p.2)
-    (counts_at_fault (Vec Item Global) (Vec Listed Global) (g.F.Folder.told c.args.folder.now) n0 n0 (g.F.Folder.faults c.list.new.self) (λ v. v at ≡ Folder)
-    (λ v entries. IsListing v at entries.items) c.in_err-entries.field-0.0 (omega arith) (λ v is. ap v at_is ∙ c.requires.folder v is) c.in_err-entries.ensures.answer
-    c.in_err-entries.ensures.counts)
+pub returns-in_err-found-clause-fault : goal.returns-in_err-found-clause-fault
+returns-in_err-found-clause-fault g c =
+    let p = err_from_is_err_and c.from_residual-in_err-found.result c.from_residual-in_err-found.ensures.1 in
+    rw (p.1, p.2) (not_of_path c.in_err-found.field-0.0)

@@ -1,7 +1,7 @@
 //! Comparing two contents piece by piece.
 ghost use Rattle.std.specs.Prelude.{◌≡◌, ◌↔◌, ◌≤◌, ◌<◌, ◌-◌, [], ℕ, List, IfOk, IfErr, OnOk, IsTrue, Ok, Err, length, take, drop};
-ghost use Rattle.port_model.specs.Counts.{CountRose};
 ghost use Rattle.chunk_files.specs.Reading.{Whole};
+ghost use Rattle.folder_model.specs.Answers.{OnlyLooks};
 ghost use Rattle.folder_spec.specs.View.{View, FileOf};
 ghost use Rattle.folder_spec.specs.Seen.{IfSeen, IsSeen, ShowsFile};
 ghost use Rattle.vault_spec.specs.Vault.{format_of};
@@ -72,7 +72,7 @@ impl Opened {
     // Reads the next chunk where all that was read is compared. Where none is left then, the content has ended.
     fn fill<F: Folder>(&mut self, folder: &mut F) -> Result<(), MatchFault>
         requires { IfSeen (F.told folder.old) (λ v. IsBeingRead v self.old.at self.old.decoding) }
-        ensures told { F.told folder.new ≡ F.told folder.old }
+        ensures looks { OnlyLooks (F.told folder.old) (F.told folder.new) (result ≡ Err MatchFault.Failed) (F.faults folder.old) (F.faults folder.new) }
         ensures at { self.new.at ≡ self.old.at }
         ensures suits { IfSeen (F.told folder.old) (λ v. IsBeingRead v self.new.at self.new.decoding) }
         ensures same { OnOk result (IfSeen (F.told folder.old) (λ v. (file : List ℕ) → v self.old.at ≡ FileOf file → uncompared self.old file ≡ uncompared self.new file)) }
@@ -82,8 +82,6 @@ impl Opened {
             → IsFault (λ at ending. uncompared self.old file ≡ nothing_before at ending) fault)) }
         ensures left { OnOk result (0 < length self.new.ahead → length self.new.ahead ≤ 32816 → bytes_left self.new ≤ bytes_left self.old) }
         ensures fault { IfErr result (λ fault. CanFault fault) }
-        ensures grows { F.faults folder.old ≤ F.faults folder.new }
-        ensures failed { result ≡ Err MatchFault.Failed → CountRose (F.faults folder.old) (F.faults folder.new) }
     {
         if self.start < self.end {
             return Ok(());
@@ -149,12 +147,10 @@ pub(crate) fn same_contents<F: Folder>(
 ) -> Result<bool, MatchFault>
     requires a_file { IfSeen (F.told folder.old) (λ v. ShowsFile v a_at.now) }
     requires b_file { IfSeen (F.told folder.old) (λ v. ShowsFile v b_at.now) }
-    ensures told { F.told folder.new ≡ F.told folder.old }
+    ensures looks { OnlyLooks (F.told folder.old) (F.told folder.new) (result ≡ Err MatchFault.Failed) (F.faults folder.old) (F.faults folder.new) }
     ensures compares { (v : View) → IsSeen (F.told folder.old) v
         → Answers (compared (content_at (format_of a.now.vault).content v a_at.now) (content_at (format_of b.now.vault).content v b_at.now)) result }
     ensures fault { IfErr result (λ fault. CanFault fault) }
-    ensures grows { F.faults folder.old ≤ F.faults folder.new }
-    ensures failed { result ≡ Err MatchFault.Failed → CountRose (F.faults folder.old) (F.faults folder.new) }
 {
     let mut pair = Pair::at(alloc, kept.take(), a, a_at, b, b_at)?;
     let same = compare(folder, &mut pair.one, &mut pair.other);
@@ -166,12 +162,10 @@ pub(crate) fn same_contents<F: Folder>(
 fn compare<F: Folder>(folder: &mut F, a: &mut Opened, b: &mut Opened) -> Result<bool, MatchFault>
     requires a_file { IfSeen (F.told folder.old) (λ v. IsBeingRead v a.old.at a.old.decoding) }
     requires b_file { IfSeen (F.told folder.old) (λ v. IsBeingRead v b.old.at b.old.decoding) }
-    ensures told { F.told folder.new ≡ F.told folder.old }
+    ensures looks { OnlyLooks (F.told folder.old) (F.told folder.new) (result ≡ Err MatchFault.Failed) (F.faults folder.old) (F.faults folder.new) }
     ensures compares { IfSeen (F.told folder.old) (λ v. (x y : List ℕ) → v a.old.at ≡ FileOf x → v b.old.at ≡ FileOf y
         → Answers (compared (uncompared a.old x) (uncompared b.old y)) result) }
     ensures fault { IfErr result (λ fault. CanFault fault) }
-    ensures grows { F.faults folder.old ≤ F.faults folder.new }
-    ensures failed { result ≡ Err MatchFault.Failed → CountRose (F.faults folder.old) (F.faults folder.new) }
 {
     'pieces: loop {
         a.fill(folder)?;

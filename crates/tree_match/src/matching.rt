@@ -1,8 +1,8 @@
 //! Whether a vault holds all items of another.
-ghost use Rattle.std.specs.Prelude.{◌≡◌, ◌≤◌, IfOk, IfErr, Ok, Err, Option, Some, option_copied};
-ghost use Rattle.port_model.specs.Counts.{CountRose};
+ghost use Rattle.std.specs.Prelude.{◌≡◌, IfOk, IfErr, Ok, Err, Option, Some, option_copied};
 ghost use Rattle.folder_spec.specs.View.{View};
 ghost use Rattle.folder_spec.specs.Seen.{IfSeen, IsSeen, ShowsFile};
+ghost use Rattle.folder_model.specs.Answers.{OnlyLooks};
 ghost use Rattle.plain_tree.specs.declared.NodeKind.TheVariants.{File};
 ghost use Rattle.vault_spec.specs.Plan.{Planned};
 ghost use Rattle.vault_spec.specs.Vault.{format_of};
@@ -39,12 +39,10 @@ pub fn holds_all<F: Folder>(
 ) -> Result<Match, MatchFault>
     requires a { IfSeen (F.told folder.old) (λ v. IsMatchable v a_plan.now.items) }
     requires b { IfSeen (F.told folder.old) (λ v. IsMatchable v b_plan.now.items) }
-    ensures told { F.told folder.new ≡ F.told folder.old }
+    ensures looks { OnlyLooks (F.told folder.old) (F.told folder.new) (result ≡ Err MatchFault.Failed) (F.faults folder.old) (F.faults folder.new) }
     ensures answers { (v : View) → IsSeen (F.told folder.old) v
         → Answers (matched (format_of a.now.vault).content a_plan.now.items (format_of b.now.vault).content b_plan.now.items v) result }
     ensures fault { IfErr result (λ fault. CanFault fault) }
-    ensures grows { F.faults folder.old ≤ F.faults folder.new }
-    ensures failed { result ≡ Err MatchFault.Failed → CountRose (F.faults folder.old) (F.faults folder.new) }
 {
     let mut kept = None;
     compare_items(alloc, folder, &mut kept, a, a_plan, b, b_plan)
@@ -62,12 +60,10 @@ fn compare_items<F: Folder>(
 ) -> Result<Match, MatchFault>
     requires a { IfSeen (F.told folder.old) (λ v. IsMatchable v a_plan.now.items) }
     requires b { IfSeen (F.told folder.old) (λ v. IsMatchable v b_plan.now.items) }
-    ensures told { F.told folder.new ≡ F.told folder.old }
+    ensures looks { OnlyLooks (F.told folder.old) (F.told folder.new) (result ≡ Err MatchFault.Failed) (F.faults folder.old) (F.faults folder.new) }
     ensures answers { (v : View) → IsSeen (F.told folder.old) v
         → Answers (matched (format_of a.now.vault).content a_plan.now.items (format_of b.now.vault).content b_plan.now.items v) result }
     ensures fault { IfErr result (λ fault. CanFault fault) }
-    ensures grows { F.faults folder.old ≤ F.faults folder.new }
-    ensures failed { result ≡ Err MatchFault.Failed → CountRose (F.faults folder.old) (F.faults folder.new) }
 {
     let items = a_plan.items.as_slice();
     let others = b_plan.items.as_slice();
@@ -95,12 +91,10 @@ fn difference<F: Folder>(
 ) -> Result<Option<How>, MatchFault>
     requires item { IfSeen (F.told folder.old) (λ v. item.now.node ≡ File → ShowsFile v item.now.at) }
     requires other { IfSeen (F.told folder.old) (λ v. (x : Planned) → option_copied other ≡ Some x → x.node ≡ File → ShowsFile v x.at) }
-    ensures told { F.told folder.new ≡ F.told folder.old }
+    ensures looks { OnlyLooks (F.told folder.old) (F.told folder.new) (result ≡ Err MatchFault.Failed) (F.faults folder.old) (F.faults folder.new) }
     ensures answers { (v : View) → IsSeen (F.told folder.old) v
         → Answers (held_by (format_of a.now.vault).content (format_of b.now.vault).content v item.now (option_copied other.entry)) result }
     ensures fault { IfErr result (λ fault. CanFault fault) }
-    ensures grows { F.faults folder.old ≤ F.faults folder.new }
-    ensures failed { result ≡ Err MatchFault.Failed → CountRose (F.faults folder.old) (F.faults folder.new) }
 {
     let Some(other) = other else {
         return Ok(Some(How::Missing));

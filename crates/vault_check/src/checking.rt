@@ -1,9 +1,9 @@
 //! Checking a vault.
-ghost use Rattle.std.specs.Prelude.{◌≡◌, ◌≤◌, IfOk, IfErr, Err};
+ghost use Rattle.std.specs.Prelude.{◌≡◌, IfOk, IfErr, Err};
 ghost use Rattle.folder_spec.specs.Path.{Path};
 ghost use Rattle.folder_spec.specs.Seen.{IfSeen, IsSeen, under};
 ghost use Rattle.folder_spec.specs.View.{View};
-ghost use Rattle.port_model.specs.Counts.{CountRose};
+ghost use Rattle.folder_model.specs.Answers.{OnlyLooks};
 ghost use Rattle.vault_faults.specs.declared.fault.Limit.TheVariants.{Depth, Items, Length};
 ghost use Rattle.vault_spec.specs.Vault.{format_of};
 ghost use Rattle.vault_walk.specs.Survey.{HasTooMany};
@@ -33,7 +33,7 @@ pub struct Report {
 /// Findings are in order of their paths, and at one path of their numbers. Notes are in order of their paths. All contents are read, and
 /// one of more than 2^40 bytes without a fault in these is a limit.
 pub fn check<F: Folder>(alloc: Global, folder: &mut F, vault: &Vault) -> Result<Report, CheckFault>
-    ensures told { F.told folder.new ≡ F.told folder.old }
+    ensures looks { OnlyLooks (F.told folder.old) (F.told folder.new) (result ≡ Err CheckFault.Failed) (F.faults folder.old) (F.faults folder.new) }
     ensures report { IfOk result (λ report. IfSeen (F.told folder.old) (λ v. IsReport vault.now.root (format_of vault.now.vault) (under vault.now.root v) report)) }
     ensures within { IfOk result (λ report. IfSeen (F.told folder.old) (λ v. IsWithin (format_of vault.now.vault) (under vault.now.root v))) }
     ensures short { IfOk result (λ report. IfSeen (F.told folder.old) (λ v. (at : Path) → ¬ IsTooLong (format_of vault.now.vault) (under vault.now.root v) at)) }
@@ -43,8 +43,6 @@ pub fn check<F: Folder>(alloc: Global, folder: &mut F, vault: &Vault) -> Result<
         → NamesTooLong vault.now.root (format_of vault.now.vault) (under vault.now.root v) at }
     ensures limits_first { (at : Path) → result ≡ Err (CheckFault.Limit (Length at)) → IfSeen (F.told folder.old) (λ v. IsWithin (format_of vault.now.vault) (under vault.now.root v)) }
     ensures fault { IfErr result (λ fault. IsCheckFault fault) }
-    ensures grows { F.faults folder.old ≤ F.faults folder.new }
-    ensures failed { result ≡ Err CheckFault.Failed → CountRose (F.faults folder.old) (F.faults folder.new) }
 {
     what_stands_is_found_step_by_step();
     files_have_their_contents();

@@ -1,9 +1,9 @@
 //! Reading the contents of a vault for their faults.
-ghost use Rattle.std.specs.Prelude.{◌≡◌, ◌≤◌, ◌++◌, ℕ, List, IfOk, IfErr, OnOk, Err, Contains, option_to_list};
+ghost use Rattle.std.specs.Prelude.{◌≡◌, ◌++◌, ℕ, List, IfOk, IfErr, OnOk, Err, Contains, option_to_list};
 ghost use Rattle.chunk_files.specs.Reading.{Wanting};
 ghost use Rattle.folder_spec.specs.Path.{Path};
 ghost use Rattle.folder_spec.specs.Seen.{IfSeen, ShowsFile};
-ghost use Rattle.port_model.specs.Counts.{CountRose};
+ghost use Rattle.folder_model.specs.Answers.{OnlyLooks};
 ghost use Rattle.vault_faults.specs.declared.fault.Limit.TheVariants.{Length};
 ghost use Rattle.vault_read.specs.Contents.{IsBeingRead, Suits, limited_reading, still};
 ghost use Rattle.vault_spec.specs.Findings.{finding_of, number_of};
@@ -50,13 +50,11 @@ pub(crate) fn damaged_contents<F: Folder>(
     contents: &[FPath],
 ) -> Result<Vec<Finding>, CheckFault>
     requires { IfSeen (F.told folder.old) (λ v. (at : Path) → Contains contents.now at → ShowsFile v at) }
-    ensures told { F.told folder.new ≡ F.told folder.old }
+    ensures looks { OnlyLooks (F.told folder.old) (F.told folder.new) (result ≡ Err CheckFault.Failed) (F.faults folder.old) (F.faults folder.new) }
     ensures damaged { IfOk result (λ damaged. HasRead (F.told folder.old) (format_of vault.now.vault) contents.now damaged.items) }
     ensures length { (named : Path) → result ≡ Err (CheckFault.Limit (Length named)) → Contains contents.now named
         × (IfSeen (F.told folder.old) (λ v. EndsAs (format_of vault.now.vault) v named Wanting)) }
     ensures fault { IfErr result (λ fault. IsContentFault fault) }
-    ensures grows { F.faults folder.old ≤ F.faults folder.new }
-    ensures failed { result ≡ Err CheckFault.Failed → CountRose (F.faults folder.old) (F.faults folder.new) }
 {
     let mut chunk = ChunkBuf::new(alloc)?;
     let mut damaged = Vec::new(alloc);
@@ -110,13 +108,11 @@ fn fault_of<F: Folder>(
     chunk: &mut ChunkBuf,
 ) -> Result<Option<ChunkFault>, CheckFault>
     requires { IfSeen (F.told folder.old) (λ v. ShowsFile v at.now) }
-    ensures told { F.told folder.new ≡ F.told folder.old }
+    ensures looks { OnlyLooks (F.told folder.old) (F.told folder.new) (result ≡ Err CheckFault.Failed) (F.faults folder.old) (F.faults folder.new) }
     ensures ending { IfOk result (λ fault. IfSeen (F.told folder.old) (λ v. EndsAs (format_of vault.now.vault) v at.now (ending_of fault))) }
     ensures length { (named : Path) → result ≡ Err (CheckFault.Limit (Length named)) → (named ≡ at.now)
         × (IfSeen (F.told folder.old) (λ v. EndsAs (format_of vault.now.vault) v at.now Wanting)) }
     ensures fault { IfErr result (λ fault. IsContentFault fault) }
-    ensures grows { F.faults folder.old ≤ F.faults folder.new }
-    ensures failed { result ≡ Err CheckFault.Failed → CountRose (F.faults folder.old) (F.faults folder.new) }
 {
     let mut reader = reader_at(alloc, vault, at, last.take())?;
     let fault = first_fault(folder, &mut reader, chunk);
@@ -149,13 +145,11 @@ fn first_fault<F: Folder>(
     chunk: &mut ChunkBuf,
 ) -> Result<Option<ChunkFault>, CheckFault>
     requires { IfSeen (F.told folder.old) (λ v. IsBeingRead v reader.old.at reader.old.decoding) }
-    ensures told { F.told folder.new ≡ F.told folder.old }
+    ensures looks { OnlyLooks (F.told folder.old) (F.told folder.new) (result ≡ Err CheckFault.Failed) (F.faults folder.old) (F.faults folder.new) }
     ensures ending { IfOk result (λ fault. IfSeen (F.told folder.old) (λ v. StillEnds v reader.old (ending_of fault))) }
     ensures length { (named : Path) → result ≡ Err (CheckFault.Limit (Length named)) → (named ≡ reader.old.at)
         × (IfSeen (F.told folder.old) (λ v. StillEnds v reader.old Wanting)) }
     ensures fault { IfErr result (λ fault. IsContentFault fault) }
-    ensures grows { F.faults folder.old ≤ F.faults folder.new }
-    ensures failed { result ≡ Err CheckFault.Failed → CountRose (F.faults folder.old) (F.faults folder.new) }
 {
     'chunks: loop {
         match reader.next(folder, chunk) {

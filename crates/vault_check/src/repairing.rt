@@ -1,13 +1,11 @@
 //! Moving strays out of a vault.
-ghost use Rattle.std.specs.Prelude.{◌≡◌, ◌≤◌, ◌<◌, ◌^◌, [], IfOk, IfErr, IfSome, OnOk, Err};
-ghost use Rattle.folder_model.specs.Answers.{CountsAbove};
+ghost use Rattle.std.specs.Prelude.{◌≡◌, ◌<◌, ◌^◌, [], IfOk, IfErr, IfSome, OnOk, Err};
+ghost use Rattle.folder_model.specs.Answers.{CountsAbove, OnlyLooks};
 ghost use Rattle.folder_spec.specs.Event.{FromTo, IsFree};
-ghost use Rattle.folder_spec.specs.Path.{Path};
 ghost use Rattle.folder_spec.specs.Seen.{IfSeen, under};
 ghost use Rattle.folder_spec.specs.State.{present};
-ghost use Rattle.port_model.specs.Counts.{CountRose};
+ghost use Rattle.port_model.specs.Counts.{Blames};
 ghost use Rattle.vault_faults.specs.declared.fault.Limit.TheVariants.{Depth, Items};
-ghost use Rattle.vault_spec.specs.Moving.{IsStray};
 ghost use Rattle.vault_spec.specs.Vault.{format_of};
 ghost use Rattle.vault_walk.specs.Survey.{HasTooMany};
 ghost use Rattle.vault_walk.specs.Surveyed.{IsOnlyTooDeep, IsWithin};
@@ -41,8 +39,7 @@ pub fn repair<F: Folder>(
     ensures items { result ≡ Err (CheckFault.Limit Items) → IfSeen (F.told folder.old) (λ v. HasTooMany (format_of vault.now.vault) (under vault.now.root v)) }
     ensures depth { result ≡ Err (CheckFault.Limit Depth) → IfSeen (F.told folder.old) (λ v. IsOnlyTooDeep (format_of vault.now.vault) (under vault.now.root v)) }
     ensures fault { IfErr result (λ fault. IsRepairFault fault) }
-    ensures grows { F.faults folder.old ≤ F.faults folder.new }
-    ensures failed { result ≡ Err CheckFault.Failed → CountRose (F.faults folder.old) (F.faults folder.new) }
+    ensures blames { Blames (result ≡ Err CheckFault.Failed) (F.faults folder.old) (F.faults folder.new) }
 {
     strays_go_alone();
     let strays = found_strays(alloc, folder, vault)?;
@@ -56,14 +53,12 @@ fn found_strays<F: Folder>(
     folder: &mut F,
     vault: &Vault,
 ) -> Result<Vec<FPath>, CheckFault>
-    ensures told { F.told folder.new ≡ F.told folder.old }
+    ensures looks { OnlyLooks (F.told folder.old) (F.told folder.new) (result ≡ Err CheckFault.Failed) (F.faults folder.old) (F.faults folder.new) }
     ensures strays { IfOk result (λ strays. IfSeen (F.told folder.old) (λ v. AreStraysBehind vault.now.root (format_of vault.now.vault) (under vault.now.root v) strays.items)) }
     ensures within { IfOk result (λ strays. IfSeen (F.told folder.old) (λ v. IsWithin (format_of vault.now.vault) (under vault.now.root v))) }
     ensures items { result ≡ Err (CheckFault.Limit Items) → IfSeen (F.told folder.old) (λ v. HasTooMany (format_of vault.now.vault) (under vault.now.root v)) }
     ensures depth { result ≡ Err (CheckFault.Limit Depth) → IfSeen (F.told folder.old) (λ v. IsOnlyTooDeep (format_of vault.now.vault) (under vault.now.root v)) }
     ensures fault { IfErr result (λ fault. IsRepairFault fault) }
-    ensures grows { F.faults folder.old ≤ F.faults folder.new }
-    ensures failed { result ≡ Err CheckFault.Failed → CountRose (F.faults folder.old) (F.faults folder.new) }
 {
     let surveyed = survey(alloc, folder, vault)?;
     Ok(outer_strays(alloc, surveyed.findings.as_slice())?)

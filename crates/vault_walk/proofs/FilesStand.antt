@@ -2,13 +2,12 @@
 use Rattle.std.proofs.Common.{◌≡◌, ℕ, Bool, true, false, cond, List, [], ◌∷◌, ◌++◌, Some, refl, sym, ap, ◌∙◌, subst}
 use Rattle.std.specs.Prelude.{Contains, is_some}
 use Rattle.folder_spec.specs.Path.{Path, child}
-use Rattle.folder_spec.specs.Seen.{under}
+use Rattle.folder_spec.specs.Seen.{under, ShowsFile}
 use Rattle.folder_spec.specs.View.{Found, NoEntry, Folder, FileOf, Special, View}
 use Rattle.plain_tree.specs.Names.{is_name}
 use Rattle.plain_tree.specs.declared.NodeKind.TheVariants as node
 use Rattle.vault_spec.specs.Alike.{place_of}
 use Rattle.vault_spec.specs.Cryptomator.{cm_item_of, content_file, id_file, symlink_file, folder_item, has_file}
-use Rattle.vault_spec.specs.Findings.{IsFileAt}
 use Rattle.vault_spec.specs.Format.{Format, Directory, Item, Nothing, FileItem, DirectoryItem, NoItem, is_file}
 use Rattle.vault_spec.specs.Gocryptfs.{go_item}
 use Rattle.vault_spec.specs.Listing.{node_of}
@@ -48,7 +47,7 @@ folder_file false false true true rest e = cc
 folder_file false false false true rest e = cc
 folder_file false false false false rest e = cc
 
-cm_file : (long : Bool) (u : View) (x : Found) (rest : Path) → u [] ≡ x → cm_item_of long u x ≡ FileItem rest → IsFileAt u rest
+cm_file : (long : Bool) (u : View) (x : Found) (rest : Path) → u [] ≡ x → cm_item_of long u x ≡ FileItem rest → ShowsFile u rest
 cm_file long u NoEntry rest here e = cc
 cm_file true u (FileOf bytes) rest here e = cc
 cm_file false u (FileOf bytes) rest here e = let same : rest ≡ [] = cc in (bytes, ap u same ∙ here)
@@ -58,7 +57,7 @@ cm_file long u Folder rest here e =
     let both = folder_file long (has_file u content_file) (has_file u id_file) (has_file u symlink_file) rest e in
     let file = is_file_at (u (content_file ∷ [])) both.0 in (file.0, ap u both.1 ∙ file.1)
 
-item_file : (vault : Vault) (long : Bool) (u : View) (rest : Path) → (format_of vault).item long u ≡ FileItem rest → IsFileAt u rest
+item_file : (vault : Vault) (long : Bool) (u : View) (rest : Path) → (format_of vault).item long u ≡ FileItem rest → ShowsFile u rest
 item_file (Gocryptfs keys) long u rest e = let file = go_file (u []) rest e in (file.1, ap u file.0 ∙ file.2)
 item_file (Cryptomator cm) long u rest e = cm_file long u (u []) rest refl e
 
@@ -70,11 +69,11 @@ file_item f w entry false DirectoryItem at e = cc
 file_item f w entry true DirectoryItem at e = cc
 file_item f w entry named (NoItem finding) at e = cc
 
-file_stands : (vault : Vault) (w : View) (dir : Directory) (name : List ℕ) (at : Path) → standing_in (format_of vault) w dir name ≡ File at → IsFileAt w at
+file_stands : (vault : Vault) (w : View) (dir : Directory) (name : List ℕ) (at : Path) → standing_in (format_of vault) w dir name ≡ File at → ShowsFile w at
 unfolding standing_in
 file_stands vault w dir name at e = by_name (is_name name) e
   where
-    by_name : (b : Bool) → cond b (standing_of (format_of vault) w (child dir.folder ((format_of vault).stored dir.key name).name) (holds_full (format_of vault) w dir ((format_of vault).stored dir.key name)) (item_at (format_of vault) w dir ((format_of vault).stored dir.key name))) Absent ≡ File at → IsFileAt w at
+    by_name : (b : Bool) → cond b (standing_of (format_of vault) w (child dir.folder ((format_of vault).stored dir.key name).name) (holds_full (format_of vault) w dir ((format_of vault).stored dir.key name)) (item_at (format_of vault) w dir ((format_of vault).stored dir.key name))) Absent ≡ File at → ShowsFile w at
     by_name false stands = cc
     by_name true stands =
         let s = (format_of vault).stored dir.key name in
@@ -90,7 +89,7 @@ file_is (Dir place directory) at e p = cc
 
 -- each file item of a survey has its file
 pub survey_files : StandBelow → (vault : Vault) (root : Path) (v : View) (surveyed : Surveyed) → IsSurveyed root (format_of vault) (under root v) surveyed
-    → (item : Planned) → Contains surveyed.plan.items item → item.node ≡ node.File → IsFileAt v item.at
+    → (item : Planned) → Contains surveyed.plan.items item → item.node ≡ node.File → ShowsFile v item.at
 survey_files below vault root v surveyed s item there file =
     let from = mapped_from (placed root) s.plan item (subst (λ xs. Contains xs item) s.items_are there) in
     let stand = s.is.once.stand from.0 from.1 in

@@ -2,11 +2,12 @@
 use Rattle.std.proofs.Common.{◌≡◌, ◌≢◌, ◌++◌, ℕ, Bool, true, false, not, List, Option, Some, None, is_some, refl, sym, ap, ◌∙◌, subst}
 use Rattle.folder_spec.specs.Listing as folder
 use Rattle.folder_spec.specs.Path.{Part, Path, child}
+use Rattle.folder_spec.specs.Seen.{ShowsFile}
 use Rattle.folder_spec.specs.View as view
 use Rattle.folder_spec.specs.View.{NoEntry, Folder, FileOf, Special, View, kind_found}
 use Rattle.folder_spec.specs.declared.Kind.TheVariants as kinds
 use Rattle.folder_spec.proofs.Paths.{child-last}
-use Rattle.vault_spec.specs.Findings.{IsFileAt, IsFullTextOf}
+use Rattle.vault_spec.specs.Findings.{IsFullTextOf}
 use Rattle.vault_spec.specs.Format.{Format, Directory, file_bytes}
 use Rattle.vault_spec.specs.Standing.{holds, is_file_of}
 use Rattle.vault_spec.specs.declared.Finding.{Finding}
@@ -29,21 +30,21 @@ file_holds text NoEntry e = cc
 file_holds text Folder e = cc
 file_holds text Special e = cc
 
-text_there : (v : View) (at : Path) (full : Option (List ℕ)) → is_some full ≡ true → holds v at full ≡ true → IsFileAt v at
+text_there : (v : View) (at : Path) (full : Option (List ℕ)) → is_some full ≡ true → holds v at full ≡ true → ShowsFile v at
 text_there v at None some e = cc
 text_there v at (Some text) some e = file_holds text (v at) e
 
-pub right_is_file : (f : Format) (v : View) (dir : Directory) (file entry : Part) → IsFullTextOf f v dir file entry → IsFileAt v (child dir.folder file)
+pub right_is_file : (f : Format) (v : View) (dir : Directory) (file entry : Part) → IsFullTextOf f v dir file entry → ShowsFile v (child dir.folder file)
 right_is_file f v dir file entry right =
     let s = f.stored dir.key right.name in
     let place : dir.folder ++ f.full_at s.name ≡ child dir.folder file = ap (λ e. dir.folder ++ f.full_at e) right.of.stores ∙ ap (λ p. dir.folder ++ p) right.beside in
-    subst (IsFileAt v) place (text_there v (dir.folder ++ f.full_at s.name) s.full right.long right.of.full)
+    subst (ShowsFile v) place (text_there v (dir.folder ++ f.full_at s.name) s.full right.long right.of.full)
 
 file_kind : (there : view.Found) (bytes : List ℕ) → there ≡ FileOf bytes → kind_found there ≡ kinds.File
 file_kind there bytes e = ap kind_found e
 
 module _ (f : Format) (v : View) (dir : Directory) (file : folder.Item) (in_folder : IsEntryIn v dir file) where
-  kind_there : IsFileAt v (child dir.folder file.name) → file.kind ≡ kinds.File
+  kind_there : ShowsFile v (child dir.folder file.name) → file.kind ≡ kinds.File
   kind_there is_file = sym in_folder.kind ∙ file_kind (v (child dir.folder file.name)) is_file.0 is_file.1
 
   -- it isn't one
@@ -59,7 +60,7 @@ module _ (f : Format) (v : View) (dir : Directory) (file : folder.Item) (in_fold
       of_idle : IsIdleHere f v dir (child dir.folder file.name) → None ≡ Some is.EmptyOrphan
       of_idle i =
           let same : file.name ≡ i.file = child-last dir.folder file.name i.file i.place in
-          let is_file : IsFileAt v (child dir.folder file.name) = subst (λ p. IsFileAt v (child dir.folder p)) (sym same) (right_is_file f v dir i.file i.entry i.right) in
+          let is_file : ShowsFile v (child dir.folder file.name) = subst (λ p. ShowsFile v (child dir.folder p)) (sym same) (right_is_file f v dir i.file i.entry i.right) in
           let clash : true ≡ false = sym i.full ∙ ap f.is_full (sym same) ∙ none (kind_there is_file) in
           cc clash
 

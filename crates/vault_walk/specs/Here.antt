@@ -2,12 +2,13 @@
 -- is an item, or is odd; and an item's own folder may hold what has no place in it. A vault's findings are these, of each directory that is
 -- reached, beside those of its root, of directories that are one, and of places outside of the folders of entries.
 use Rattle.std.specs.Prelude.{◌≡◌, ◌≢◌, ◌⊎◌, ℕ, List, Err, IsTrue, is_some}
+use Rattle.folder_spec.specs.Seen.{ShowsFile}
 use Rattle.chunk_files.specs.Contents.{readable}
 use Rattle.chunk_files.specs.Reading.{Faulty}
 use Rattle.chunk_files.specs.declared.fault.ChunkFault.{ChunkFault}
 use Rattle.folder_spec.specs.Path.{Part, Path, child}
 use Rattle.folder_spec.specs.View.{NoEntry, FileOf, View}
-use Rattle.vault_spec.specs.Findings.{IsFileAt, IsEntryOf, Belongs, IsFullTextOf, IsTwice, IsOrphanFolder, IsIdleFolder, IsIdleShelf, finding_of}
+use Rattle.vault_spec.specs.Findings.{IsEntryOf, Belongs, IsFullTextOf, IsTwice, IsOrphanFolder, IsIdleFolder, IsIdleShelf, finding_of}
 use Rattle.vault_spec.specs.Reached.{IsReached}
 use Rattle.vault_spec.specs.Format.{Format, Directory, NoItem, Extra}
 use Rattle.vault_spec.specs.Standing.{File, Dir, root_of, entry_at, item_at, standing_in}
@@ -36,7 +37,7 @@ pub record IsNoItemHere (f : Format) (v : View) (dir : Directory) (finding : Fin
 pub record IsOrphanHere (f : Format) (v : View) (dir : Directory) (at : Path) : Type 0 where
   pub file : Part
   pub place : at ≡ child dir.folder file
-  pub there : IsFileAt v at
+  pub there : ShowsFile v at
   pub full : IsTrue (f.is_full file)
   pub wrong : (entry : Part) → ¬ IsFullTextOf f v dir file entry
 

@@ -1,5 +1,5 @@
 //! What is found outside of the folders of entries: at the root of a Cryptomator vault, in `d`, and in the folders there.
-ghost use Rattle.std.specs.Prelude.{◌≡◌, ◌++◌, Contains, IfOk, OnOk};
+ghost use Rattle.std.specs.Prelude.{◌≡◌, Contains, IfOk};
 ghost use Rattle.std.specs.List.{list_any};
 ghost use Rattle.folder_spec.specs.Listing.{IsListing};
 ghost use Rattle.folder_spec.specs.Path.{Path, child};

@@ -1,23 +1,21 @@
 //! Surveys and walks of vaults.
 ghost use Rattle.std.specs.Prelude.{◌≡◌, ◌≤◌, ◌↔◌, ◌++◌, [], map, length, List, ◌∷◌, IfOk, IfErr, MatchOption, Err, IsTrue, Contains};
 ghost use Rattle.std.specs.BTreeSet.{contains};
-ghost use Rattle.std.specs.List.{filter};
 ghost use Rattle.std.specs.List.Sorted.{IsStrictlySortedBy};
-ghost use Rattle.folder_model.specs.Answers.{CountsAbove};
+ghost use Rattle.folder_model.specs.Answers.{CountsAbove, OnlyLooks};
 ghost use Rattle.folder_model.specs.Order.{path_cmp};
 ghost use Rattle.folder_spec.specs.Path.{Path};
-ghost use Rattle.folder_spec.specs.Seen.{IfSeen, IsSeen, under};
+ghost use Rattle.folder_spec.specs.Seen.{IfSeen, IsSeen, under, ShowsFile};
 ghost use Rattle.folder_spec.specs.View.{View};
 ghost use Rattle.plain_tree.specs.declared.NodeKind.TheVariants as node;
-ghost use Rattle.port_model.specs.Counts.{CountRose};
 ghost use Rattle.vault_read.specs.Laws.{HasOwnFolders};
 ghost use Rattle.vault_faults.specs.declared.fault.Limit.TheVariants.{Depth, Items};
-ghost use Rattle.vault_spec.specs.Findings.{IsClean, IsFileAt};
+ghost use Rattle.vault_spec.specs.Findings.{IsClean};
 ghost use Rattle.vault_spec.specs.Plan.{Planned};
 ghost use Rattle.vault_spec.specs.Vault.{format_of};
 ghost use Rattle.vault_walk.specs.Found.{found_cmp};
 ghost use Rattle.vault_walk.specs.Survey.{HasTooMany, IsOrdered, item_limit};
-ghost use Rattle.vault_walk.specs.Surveyed.{findings_behind, is_note, is_structural, notes_behind, placed, AreInOrder, ArePlaced, AreTold, HaveMet, IsFirstFinding, IsOnlyTooDeep, IsPlanOf, IsSurveyed, IsSurveyFault, IsWalkFault, IsWithin};
+ghost use Rattle.vault_walk.specs.Surveyed.{findings_behind, notes_behind, placed, AreInOrder, ArePlaced, AreTold, HaveMet, IsFirstFinding, IsOnlyTooDeep, IsPlanOf, IsSurveyed, IsSurveyFault, IsWalkFault, IsWithin};
 ghost use Rattle.vault_walk.specs.Walking as walking;
 
 use crate::apart::found_apart;
@@ -53,19 +51,17 @@ pub fn survey<F: Folder>(
     folder: &mut F,
     vault: &Vault,
 ) -> Result<Surveyed, WalkFault>
-    ensures told { F.told folder.new ≡ F.told folder.old }
+    ensures looks { OnlyLooks (F.told folder.old) (F.told folder.new) (result ≡ Err WalkFault.Failed) (F.faults folder.old) (F.faults folder.new) }
     ensures survey { IfOk result (λ surveyed. IfSeen (F.told folder.old) (λ v. IsSurveyed vault.now.root (format_of vault.now.vault) (under vault.now.root v) surveyed)) }
     ensures plan { IfOk result (λ surveyed. IfSeen (F.told folder.old) (λ v. IsClean (format_of vault.now.vault) (under vault.now.root v) → HasOwnFolders vault.now.vault (under vault.now.root v)
         → IsPlanOf vault.now.root (format_of vault.now.vault) (under vault.now.root v) surveyed.plan.items)) }
-    ensures files { IfOk result (λ surveyed. IfSeen (F.told folder.old) (λ v. (item : Planned) → Contains surveyed.plan.items item → item.node ≡ node.File → IsFileAt v item.at)) }
+    ensures files { IfOk result (λ surveyed. IfSeen (F.told folder.old) (λ v. (item : Planned) → Contains surveyed.plan.items item → item.node ≡ node.File → ShowsFile v item.at)) }
     ensures behind { IfOk result (λ surveyed. (item : Planned) → Contains surveyed.plan.items item → (rest : Path) × (item.at ≡ vault.now.root ++ rest)) }
     ensures within { IfOk result (λ surveyed. IfSeen (F.told folder.old) (λ v. IsWithin (format_of vault.now.vault) (under vault.now.root v))) }
     ensures size { IfOk result (λ surveyed. length surveyed.plan.items ≤ item_limit) }
     ensures items { result ≡ Err (WalkFault.Limit Items) → IfSeen (F.told folder.old) (λ v. HasTooMany (format_of vault.now.vault) (under vault.now.root v)) }
     ensures depth { result ≡ Err (WalkFault.Limit Depth) → IfSeen (F.told folder.old) (λ v. IsOnlyTooDeep (format_of vault.now.vault) (under vault.now.root v)) }
     ensures fault { IfErr result (λ fault. IsSurveyFault fault) }
-    ensures grows { F.faults folder.old ≤ F.faults folder.new }
-    ensures failed { result ≡ Err WalkFault.Failed → CountRose (F.faults folder.old) (F.faults folder.new) }
 {
     what_stands_is_found_step_by_step();
     each_item_once_is_the_plan();
@@ -83,12 +79,12 @@ pub fn survey<F: Folder>(
 
 /// The items of a clean vault, in order of their paths. Where a vault isn't clean, the first finding.
 pub fn walk<F: Folder>(alloc: Global, folder: &mut F, vault: &Vault) -> Result<Plan, WalkFault>
-    ensures told { F.told folder.new ≡ F.told folder.old }
+    ensures looks { OnlyLooks (F.told folder.old) (F.told folder.new) (result ≡ Err WalkFault.Failed) (F.faults folder.old) (F.faults folder.new) }
     ensures clean { IfOk result (λ plan. IfSeen (F.told folder.old) (λ v. IsClean (format_of vault.now.vault) (under vault.now.root v))) }
     ensures plan { IfOk result (λ plan. IfSeen (F.told folder.old) (λ v. HasOwnFolders vault.now.vault (under vault.now.root v)
         → IsPlanOf vault.now.root (format_of vault.now.vault) (under vault.now.root v) plan.items)) }
     ensures ordered { IfOk result (λ plan. IfSeen (F.told folder.old) (λ v. IsOrdered plan.items)) }
-    ensures files { IfOk result (λ plan. IfSeen (F.told folder.old) (λ v. (item : Planned) → Contains plan.items item → item.node ≡ node.File → IsFileAt v item.at)) }
+    ensures files { IfOk result (λ plan. IfSeen (F.told folder.old) (λ v. (item : Planned) → Contains plan.items item → item.node ≡ node.File → ShowsFile v item.at)) }
     ensures behind { IfOk result (λ plan. (item : Planned) → Contains plan.items item → (rest : Path) × (item.at ≡ vault.now.root ++ rest)) }
     ensures size { IfOk result (λ plan. length plan.items ≤ item_limit) }
     ensures not_clean { (finding : Finding) → result ≡ Err (WalkFault.NotClean finding) → (v : View) → IsSeen (F.told folder.old) v
@@ -98,8 +94,6 @@ pub fn walk<F: Folder>(alloc: Global, folder: &mut F, vault: &Vault) -> Result<P
     ensures within { IfOk result (λ plan. IfSeen (F.told folder.old) (λ v. IsWithin (format_of vault.now.vault) (under vault.now.root v))) }
     ensures limits_first { (finding : Finding) → result ≡ Err (WalkFault.NotClean finding) → IfSeen (F.told folder.old) (λ v. IsWithin (format_of vault.now.vault) (under vault.now.root v)) }
     ensures fault { IfErr result (λ fault. IsWalkFault fault) }
-    ensures grows { F.faults folder.old ≤ F.faults folder.new }
-    ensures failed { result ≡ Err WalkFault.Failed → CountRose (F.faults folder.old) (F.faults folder.new) }
 {
     let Surveyed { plan, findings, .. } = survey(alloc, folder, vault)?;
     match first_of(findings) {

@@ -25,7 +25,7 @@ returns-in_err-fill-2-clause-compares g c =
     rw (p.1, p.2)
     (λ v seen x y file_a file_b.
     let at_loop = subst (λ t. IsSeen t v) (sym i.told) seen in
-    let at_second = subst (λ t. IsSeen t v) (sym (e.told ∙ i.told)) seen in
+    let at_second = subst (λ t. IsSeen t v) (sym (e.looks.told ∙ i.told)) seen in
     let here = ap v i.a_at ∙ file_a in
     let a = c.fill.new.self in
     stops_second (compared (uncompared c.args.a.now x) (uncompared c.args.b.now y)) c.pieces.a.at a.ahead (uncompared c.pieces.a x) (content_of a.at (still a.decoding x)) (uncompared c.pieces.b y)
@@ -38,7 +38,7 @@ returns-then-count-eq0-clause-compares g c = λ v seen x y file_a file_b.
     let e = c.in_ok-fill.ensures in
     let f = c.in_ok-fill-2.ensures in
     let at_loop = subst (λ t. IsSeen t v) (sym i.told) seen in
-    let at_second = subst (λ t. IsSeen t v) (sym (e.told ∙ i.told)) seen in
+    let at_second = subst (λ t. IsSeen t v) (sym (e.looks.told ∙ i.told)) seen in
     let here = ap v i.a_at ∙ file_a in
     let there = ap v i.b_at ∙ file_b in
     let a = c.fill.new.self in
@@ -56,7 +56,7 @@ returns-then-not-begin_alike-clause-compares g c = λ v seen x y file_a file_b.
     let e = c.in_ok-fill.ensures in
     let f = c.in_ok-fill-2.ensures in
     let at_loop = subst (λ t. IsSeen t v) (sym i.told) seen in
-    let at_second = subst (λ t. IsSeen t v) (sym (e.told ∙ i.told)) seen in
+    let at_second = subst (λ t. IsSeen t v) (sym (e.looks.told ∙ i.told)) seen in
     let a = c.fill.new.self in
     let b = c.fill-in-pieces.new.self in
     let n = c.min-count.result in
@@ -79,18 +79,18 @@ pieces-preserved g c =
     let alike : take n a.ahead ≡ take n b.ahead =
     sym (ap (take n) c.ahead-in-pieces-2.ensures.value) ∙ c.begin_alike.ensures.0 c.if-not-begin_alike.false ∙ ap (take n) c.ahead-in-pieces-3.ensures.value in
     record {
-      told = f.told ∙ e.told ∙ i.told;
+      told = f.looks.told ∙ e.looks.told ∙ i.told;
       a_at = c.pass.ensures.at ∙ e.at ∙ i.a_at;
       b_at = c.pass-in-pieces.ensures.at ∙ f.at ∙ i.b_at;
       a_file = λ v seen. rw (c.pass.ensures.at, c.pass.ensures.decoding) (e.suits v (subst (λ t. IsSeen t v) (sym i.told) seen));
-      b_file = λ v seen. rw (c.pass-in-pieces.ensures.at, c.pass-in-pieces.ensures.decoding) (f.suits v (subst (λ t. IsSeen t v) (sym (e.told ∙ i.told)) seen));
+      b_file = λ v seen. rw (c.pass-in-pieces.ensures.at, c.pass-in-pieces.ensures.decoding) (f.suits v (subst (λ t. IsSeen t v) (sym (e.looks.told ∙ i.told)) seen));
       same = λ v seen x y file_a file_b.
           let at_loop = subst (λ t. IsSeen t v) (sym i.told) seen in
-          let at_second = subst (λ t. IsSeen t v) (sym (e.told ∙ i.told)) seen in
+          let at_second = subst (λ t. IsSeen t v) (sym (e.looks.told ∙ i.told)) seen in
           i.same v seen x y file_a file_b
           ∙ ap₂ compared (e.same v at_loop x (ap v i.a_at ∙ file_a)) (f.same v at_second y (ap v i.b_at ∙ file_b))
           ∙ go_on n a.ahead b.ahead (content_of a.at (still a.decoding x)) (content_of b.at (still b.decoding y)) alike
           ∙ sym (ap₂ compared (passed a c.pass.new.self n c.pass.ensures.at c.pass.ensures.decoding c.pass.ensures.ahead x)
           (passed b c.pass-in-pieces.new.self n c.pass-in-pieces.ensures.at c.pass-in-pieces.ensures.decoding c.pass-in-pieces.ensures.ahead y));
-      grows = omega (arith, i.grows, e.grows, f.grows);
+      grows = omega (arith, i.grows, e.looks.blames.grows, f.looks.blames.grows);
     }

@@ -106,8 +106,8 @@ loop-item-preserved g c =
     looks_up items others c.loop-item.rest.now rest k x c.item.inside.path (option_copied c.first_at-other.result)
     c.loop-item-test.true c.item-item.is named c.from_path-rest.ensures c.first_at-other.ensures (i.merges v seen) in
     record {
-      told = e.told ∙ i.told;
-      grows = omega (arith, i.grows, e.grows);
+      told = e.looks.told ∙ i.told;
+      grows = omega (arith, i.grows, e.looks.blames.grows);
       merges = λ v seen.
           (look v seen).merges;
       same = λ v seen.

@@ -24,7 +24,7 @@ pub damaged_contents-requires : goal.damaged_contents-requires
 damaged_contents-requires g c = λ v seen at there.
     let root = c.args.vault.now.root in
     let f = format_of c.args.vault.now.vault in
-    let s = c.in_ok-plan.ensures.survey v (subst (λ t. IsSeen t v) c.in_ok-plan.ensures.told seen) in
+    let s = c.in_ok-plan.ensures.survey v (subst (λ t. IsSeen t v) c.in_ok-plan.ensures.looks.told seen) in
     contents_there root f v s.plan c.as_slice.result.now s.is.once (c.as_slice.ensures ∙ s.items_are) c.in_ok-contents.contents.items c.in_ok-contents.ensures
     (λ path p is. c.files_have_their_contents.ensures c.args.vault.now.vault (under root v) path p is) at (subst (λ xs. Contains xs at) c.as_slice-2.ensures.value there)
 
@@ -36,7 +36,7 @@ returns-clause-short g c = λ v seen at.
     none_too_long root f v s.plan c.as_slice.result.now s.is.once (c.as_slice.ensures ∙ s.items_are) c.in_ok-contents.contents.items c.in_ok-contents.ensures
     (λ front dir name leads. c.what_stands_is_found_step_by_step.ensures.behind f (under root v) front dir name leads) c.in_ok-damaged.damaged.items
     (subst (λ xs. TellsDamage f v xs c.in_ok-damaged.damaged.items) c.as_slice-2.ensures.value
-    (c.in_ok-damaged.ensures.damaged v (subst (λ t. IsSeen t v) (sym c.in_ok-plan.ensures.told) seen))) at
+    (c.in_ok-damaged.ensures.damaged v (subst (λ t. IsSeen t v) (sym c.in_ok-plan.ensures.looks.told) seen))) at
 
 pub returns-in_err-damaged-clause-length : goal.returns-in_err-damaged-clause-length
 returns-in_err-damaged-clause-length g c = λ at is v seen.
@@ -48,7 +48,7 @@ returns-in_err-damaged-clause-length g c = λ at is v seen.
     let told = c.in_err-damaged.ensures.length at (ap Err (sym p.2 ∙ same)) in
     too_long root f v s.plan c.as_slice.result.now s.is.once (c.as_slice.ensures ∙ s.items_are) c.in_ok-contents.contents.items c.in_ok-contents.ensures
     (λ path some q stands. c.what_stands_is_found_step_by_step.ensures.below f (under root v) path q some (ap place_of stands)) at
-    (subst (λ xs. Contains xs at) c.as_slice-2.ensures.value told.0) (told.1 v (subst (λ t. IsSeen t v) (sym c.in_ok-plan.ensures.told) seen))
+    (subst (λ xs. Contains xs at) c.as_slice-2.ensures.value told.0) (told.1 v (subst (λ t. IsSeen t v) (sym c.in_ok-plan.ensures.looks.told) seen))
 
 pub returns-clause-report : goal.returns-clause-report
 returns-clause-report g c = λ v seen.
@@ -60,7 +60,7 @@ returns-clause-report g c = λ v seen.
     let planned : c.as_slice.result.now ≡ map (placed root) s.plan = c.as_slice.ensures ∙ s.items_are in
     let tells : TellsDamage f v contents damaged =
     subst (λ xs. TellsDamage f v xs damaged) c.as_slice-2.ensures.value
-    (c.in_ok-damaged.ensures.damaged v (subst (λ t. IsSeen t v) (sym c.in_ok-plan.ensures.told) seen)) in
+    (c.in_ok-damaged.ensures.damaged v (subst (λ t. IsSeen t v) (sym c.in_ok-plan.ensures.looks.told) seen)) in
     let from_content : (q : Path) → Contains contents q → (at : Path) × IsContentIn f (under root v) at × (q ≡ root ++ at) = λ q there.
     content_within root f (under root v) s.plan s.is.once
     (λ path some at stands. c.what_stands_is_found_step_by_step.ensures.below f (under root v) path at some (ap place_of stands)) q

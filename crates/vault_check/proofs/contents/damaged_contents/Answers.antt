@@ -27,12 +27,12 @@ loop-at-preserved g c =
     let k = c.loop-at.at-index in
     let at = c.at-item.result in
     record {
-      told = c.in_ok-fault.ensures.told ∙ i.told;
+      told = c.in_ok-fault.ensures.looks.told ∙ i.told;
       read = λ v seen.
           subst₂ (λ some found. TellsDamage f v some found) (sym (front_more contents k at c.loop-at-test.true c.at-item.is)) (sym c.in_ok-add_damage.ensures)
           (Content at (take k contents) c.in_ok-fault.fault c.loop-at.damaged.items (i.read v seen)
           (c.in_ok-fault.ensures.ending v (subst (λ t. IsSeen t v) (sym i.told) seen)));
-      grows = omega (arith, i.grows, c.in_ok-fault.ensures.grows);
+      grows = omega (arith, i.grows, c.in_ok-fault.ensures.looks.blames.grows);
     }
 
 pub returns-in_err-fault-clause-length : goal.returns-in_err-fault-clause-length

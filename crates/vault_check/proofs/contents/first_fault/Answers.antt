@@ -40,7 +40,13 @@ returns-in-Err g c =
     let at = c.chunks.reader.at in
     let out = c.next.new.out in
     record {
-      told = e.told ∙ i.told;
+      looks = record {
+        told = e.looks.told ∙ i.told;
+        blames = record {
+          grows = omega (arith, i.grows, e.looks.blames.grows);
+          rose = λ same. rose_since _ _ _ i.grows (e.looks.blames.rose (ap Err (answers_failed fault c.ended_by.result is same)));
+        };
+      };
       ending = answers_damage fault c.ended_by.result _ is (λ path found damaged v seen.
           let file = c.requires v seen in
           let before = still c.chunks.reader.decoding file.0 in
@@ -59,8 +65,6 @@ returns-in-Err g c =
                 (file.0, file.1, i.ending v seen file.0 file.1 ∙ (ends_wanting at named (Length named) fault out before after limit gives refl).1),
           );
       fault = answers_fault fault at c.ended_by.result is e.fault;
-      grows = omega (arith, i.grows, e.grows);
-      failed = λ same. rose_since _ _ _ i.grows (e.failed (ap Err (answers_failed fault c.ended_by.result is same)));
     }
 
 pub chunks-preserved : goal.chunks-preserved
@@ -68,12 +72,12 @@ chunks-preserved g c =
     let i = c.chunks.invariant in
     let e = c.in-Ok.ensures in
     record {
-      told = e.told ∙ i.told;
+      told = e.looks.told ∙ i.told;
       at = e.at ∙ i.at;
       file = λ v seen. e.suits v (subst (λ t. IsSeen t v) (sym i.told) seen);
       ending = λ v seen bytes file.
           let gives = e.gives v (subst (λ t. IsSeen t v) (sym i.told) seen) bytes (ap v i.at ∙ file) in
           i.ending v seen bytes file
           ∙ ends_later c.in-Ok.field-0 c.next.new.out (still c.chunks.reader.decoding bytes) (still c.next.new.self.decoding bytes) (λ none. omega (arith, none, c.in-Ok.field-0-test)) gives;
-      grows = omega (arith, i.grows, e.grows);
+      grows = omega (arith, i.grows, e.looks.blames.grows);
     }

@@ -39,9 +39,11 @@ pub fn note(alloc: Global, last: &str, expected: &str, found: &str) -> Result<St
     format!(in alloc; "  at {last}\n  expected: {expected}\n  found: {found}\n")
 }
 
-/// Compares what the plays of a sweep come to, of which so many failed, with what is expected, of which so many at least are to fail.
+/// Compares what the plays of a sweep come to, of which so many failed, with what is expected, of which so many at least are to fail. It
+/// begins at `at`.
 pub fn compare_groups(
     alloc: Global,
+    at: &str,
     expected: &str,
     found: &str,
     least: u64,
@@ -55,6 +57,6 @@ pub fn compare_groups(
         return Ok(String::new(alloc));
     }
     format!(in alloc;
-        "  expected, with at least {least} failing:\n{expected}  found, with {failed} failing:\n{found}"
+        "  at {at}\n  expected, with at least {least} failing:\n{expected}  found, with {failed} failing:\n{found}"
     )
 }

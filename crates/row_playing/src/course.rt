@@ -223,8 +223,10 @@ impl Course {
         if self.is_right() {
             self.end_line()?;
         }
-        if self.is_right() && self.stage.has_unmade() {
-            self.is_wrong("calls that are to fail", "fewer calls")?;
+        if self.is_right() {
+            if let Some((expected, found)) = self.stage.unused() {
+                self.is_wrong(expected, found)?;
+            }
         }
         Ok(())
     }
@@ -243,24 +245,25 @@ impl Course {
         self.kept.as_str()
     }
 
-    /// Notes what is wrong with the plays of a row as a whole.
-    pub fn fail(&mut self, what: &str) -> Result<(), AllocError> {
+    /// Notes what is wrong with the plays of the row that begins at `at` as a whole.
+    pub fn fail(&mut self, at: &str, what: &str) -> Result<(), AllocError> {
         self.turn = 0;
-        let notes = String::from_str(self.alloc, what)?;
+        let notes = format!(in self.alloc; "  at {at}: {what}\n")?;
         self.keep(notes);
         Ok(())
     }
 
-    /// Compares the groups that a sweep comes to, in which so many calls failed, with those that are expected.
+    /// Compares the groups that the sweep that begins at `at` comes to, in which so many calls failed, with those that are expected.
     pub fn judge_groups(
         &mut self,
+        at: &str,
         expected: &str,
         found: &str,
         least: u64,
         failed: u64,
     ) -> Result<(), AllocError> {
         self.turn = 0;
-        let notes = compare_groups(self.alloc, expected, found, least, failed)?;
+        let notes = compare_groups(self.alloc, at, expected, found, least, failed)?;
         self.keep(notes);
         Ok(())
     }

@@ -77,14 +77,21 @@ impl Found {
         &mut self,
         alloc: Global,
         course: &mut Course,
-        groups: &str,
+        block: &Block,
         failed: u64,
     ) -> Result<(), AllocError> {
         let kept = course.kept();
         write!(self.text, "without\n{kept}")?;
+        let (at, groups) = (block.at.as_str(), block.groups.as_str());
         let mut expected = String::new(alloc);
         push_groups(&mut expected, course, groups)?;
-        course.judge_groups(expected.as_str(), self.text.as_str(), least(groups), failed)
+        course.judge_groups(
+            at,
+            expected.as_str(),
+            self.text.as_str(),
+            least(groups),
+            failed,
+        )
     }
 
     // Plays a sweep with one failing call, and says whether that was its last play.
@@ -103,7 +110,7 @@ impl Found {
             self.add(course.kept())?;
             return Ok(false);
         }
-        self.end(alloc, course, block.groups.as_str(), turn.saturating_sub(1))?;
+        self.end(alloc, course, block, turn.saturating_sub(1))?;
         Ok(true)
     }
 }
@@ -146,7 +153,7 @@ fn sweep<P: Player>(alloc: Global, course: &mut Course, block: &Block) -> Result
             return Ok(());
         }
     }
-    course.fail("  calls without end\n")
+    course.fail(block.at.as_str(), "calls without end")
 }
 
 // Plays a row or a sweep.
@@ -159,7 +166,7 @@ fn play_block<P: Player>(
         return sweep::<P>(alloc, course, block);
     }
     if !block.groups.is_empty() {
-        return course.fail("  groups in a row\n");
+        return course.fail(block.at.as_str(), "groups in a row");
     }
     course.play::<P>(block.lines.as_str(), 0)
 }
@@ -173,7 +180,7 @@ fn judge_plays<P: Player>(
     let lines = block.lines.as_str();
     let plays = plays(lines);
     if plays > MOST_PLAYS {
-        return course.fail("  too many plays\n");
+        return course.fail(block.at.as_str(), "too many plays");
     }
     for play in 0..plays {
         if course.is_right() {

@@ -129,6 +129,8 @@ pub struct Stage {
     pub names: Names,
     /// The bytes that each run may draw.
     pub drawn: Vec<u8>,
+    // Whether no run was handed them.
+    is_unhanded: bool,
     /// The input of the next run.
     pub input: Vec<u8>,
     /// How many bytes of it a call gives at most.
@@ -158,6 +160,7 @@ impl Stage {
             folder: Stand::new(alloc)?,
             names,
             drawn: Vec::new(alloc),
+            is_unhanded: false,
             input: Vec::new(alloc),
             most: 1_000_000,
             fails: Fails::none(alloc),
@@ -176,9 +179,20 @@ impl Stage {
         self.hit
     }
 
-    /// Whether a row ends before a call that is to fail. In a sweep there are such calls.
-    pub fn has_unmade(&self) -> bool {
-        self.turn == 0 && (!self.fails.are_none() || self.folder.has_unmade())
+    /// What a row gives to no call, where it gives any: the call that is expected, and what is found. In a sweep a call that fails may be
+    /// the last.
+    pub fn unused(&self) -> Option<(&'static str, &'static str)> {
+        if self.turn > 0 {
+            None
+        } else if !self.fails.are_none() || self.folder.has_unmade() {
+            Some(("calls that are to fail", "fewer calls"))
+        } else if !self.input.is_empty() {
+            Some(("a run that takes the input", "no such run"))
+        } else if self.is_unhanded {
+            Some(("a run that may draw", "no such run"))
+        } else {
+            None
+        }
     }
 
     // ---- what goes wrong
@@ -320,6 +334,7 @@ impl Stage {
         let out = self.taken(Object::Out)?;
         let err = self.taken(Object::Err)?;
         let random = self.random()?;
+        self.is_unhanded = false;
         Ok(Handed {
             random,
             input: self.pieces(),
@@ -452,7 +467,7 @@ impl Stage {
                 let (name, text) = cut(words);
                 self.set_name(name, text);
             }
-            "draw" => self.drawn = self.bytes(words),
+            "draw" => self.draw(words),
             "piece" => self.most = self.count(words, MOST_TAKEN as u64),
             _ => {
                 let bytes = if verb == "take" {
@@ -464,6 +479,15 @@ impl Stage {
                 self.give_input(bytes.as_slice());
             }
         }
+    }
+
+    // Has each further run draw other bytes. There has to be a run before that may draw the last ones.
+    fn draw(&mut self, words: &str) {
+        if self.turn == 0 && self.is_unhanded {
+            self.stop(Stop::Unhanded);
+        }
+        self.drawn = self.bytes(words);
+        self.is_unhanded = true;
     }
 
     /// Has a name stand for a text from now on.

@@ -12,6 +12,8 @@ pub enum Stop {
     Undone,
     /// A run makes fewer calls than those that are to fail.
     Unmade,
+    /// Random bytes take the place of those that no run might draw.
+    Unhanded,
     /// A vault that a line names doesn't open, or nothing is at a place in it.
     Vault,
     NoMemory,
@@ -25,6 +27,7 @@ impl Stop {
             Stop::Folder => "a change that the folder doesn't make",
             Stop::Undone => "a call that isn't done",
             Stop::Unmade => "fewer calls than those that are to fail",
+            Stop::Unhanded => "random bytes in place of those that no run might draw",
             Stop::Vault => "no such vault, or nothing at that place in it",
             Stop::NoMemory => "no memory",
         }

@@ -10,7 +10,8 @@ use Rattle.folder_spec.specs.Image.{Image, IsImage}
 use Rattle.folder_spec.specs.Seen.{IfSeen, IsSeen, ShowsFree, seen, under}
 use Rattle.folder_spec.specs.State.{HasNothingPending, IsSound, State}
 use Rattle.folder_spec.specs.View.{Found, NoEntry, Folder, FileOf, Special, View, view_of}
-use Rattle.vault_read.specs.Laws.{HasOwnFolders, HaveOneAnswer}
+use Rattle.vault_read.specs.Laws.{HaveOneAnswer}
+use Rattle.vault_read.specs.OwnFolders.{HasOwnFolders}
 use Rattle.vault_spec.specs.Adding.{OpensAs}
 use Rattle.vault_spec.specs.Moving.{IsStray}
 use Rattle.vault_faults.specs.declared.fault.Limit.TheVariants as limited

@@ -9,7 +9,7 @@ use Rattle.folder_spec.specs.Seen.{IfSeen, IsSeen, ShowsFree, seen, under}
 use Rattle.folder_spec.specs.State.{HasNothingPending, IsSound, State}
 use Rattle.folder_spec.specs.View.{View, view_of}
 use Rattle.plain_tree.specs.Shown.{shown_path}
-use Rattle.vault_read.specs.Laws.{HasOwnFolders}
+use Rattle.vault_read.specs.OwnFolders.{HasOwnFolders}
 use Rattle.vault_spec.specs.Adding.{OpensAs}
 use Rattle.vault_spec.specs.Format.{Format}
 use Rattle.vault_spec.specs.Moving.{IsStray}

@@ -23,7 +23,8 @@ use Rattle.migration_sides.specs.Sides.{opened_in}
 use Rattle.port_model.specs.Counts.{CountRose}
 use Rattle.port_model.specs.Draws.{ByteStream}
 use Rattle.tree_match.specs.declared.answer.MatchFault.TheVariants as match
-use Rattle.vault_read.specs.Laws.{HasOwnFolders, HaveOneAnswer}
+use Rattle.vault_read.specs.Laws.{HaveOneAnswer}
+use Rattle.vault_read.specs.OwnFolders.{HasOwnFolders}
 use Rattle.vault_spec.specs.Opened.{OpenedVault}
 use Rattle.vault_faults.specs.declared.fault.Limit.TheVariants as limit
 use Rattle.vault_spec.specs.Vault.{IsVault}

@@ -19,7 +19,8 @@ use Rattle.migrate_core.specs.Moved.{MovesTree}
 use Rattle.migrate_core.specs.declared.placing.Done.{Done}
 use Rattle.plain_tree.specs.Names as plain
 use Rattle.plain_tree.specs.declared.name_map.NameMap.TheVariants.{Same}
-use Rattle.vault_read.specs.Laws.{HasOwnFolders, HaveOneAnswer}
+use Rattle.vault_read.specs.Laws.{HaveOneAnswer}
+use Rattle.vault_read.specs.OwnFolders.{HasOwnFolders}
 use Rattle.vault_read.specs.Opened.{kind_of}
 use Rattle.vault_read.specs.declared.vault.VaultKind.{VaultKind}
 use Rattle.vault_spec.specs.Opens.{Tree, tree}

@@ -9,7 +9,8 @@ use Rattle.folder_spec.specs.Seen.{seen, under}
 use Rattle.folder_spec.specs.State.{State}
 use Rattle.folder_spec.specs.View.{ShowsAmong, View}
 use Rattle.plain_tree.specs.Names as plain
-use Rattle.vault_read.specs.Laws.{HasOwnFolders, HaveOneAnswer}
+use Rattle.vault_read.specs.Laws.{HaveOneAnswer}
+use Rattle.vault_read.specs.OwnFolders.{HasOwnFolders}
 use Rattle.vault_read.specs.Opened.{kind_of}
 use Rattle.vault_read.specs.declared.vault.VaultKind.{VaultKind}
 use Rattle.vault_read.specs.declared.vault.VaultKind.TheVariants as kind

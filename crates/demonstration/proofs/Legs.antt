@@ -21,7 +21,8 @@ use Rattle.move_journal.specs.declared.journal.Journal.{Journal}
 use Rattle.move_journal.specs.Reading.{StandsIn}
 use Rattle.move_journal.proofs.Standing.{HaveOneJournal}
 use Rattle.retire_core.specs.Retiring.{HasRetired, Touches, TouchesOnly, retiring_by}
-use Rattle.vault_read.specs.Laws.{HasOwnFolders, HaveOneAnswer}
+use Rattle.vault_read.specs.Laws.{HaveOneAnswer}
+use Rattle.vault_read.specs.OwnFolders.{HasOwnFolders}
 use Rattle.vault_read.specs.Opened.{kind_of}
 use Rattle.vault_read.specs.declared.vault.VaultKind.{VaultKind}
 use Rattle.vault_read.specs.declared.vault.VaultKind.TheVariants as kind

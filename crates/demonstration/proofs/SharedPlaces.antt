@@ -19,7 +19,8 @@ use Rattle.port_model.specs.Draws.{ByteStream}
 use Rattle.vault_spec.specs.PlanOf.{IsPlanOf, node_of}
 use Rattle.tree_match.specs.Mapping.{IsMappedPlan}
 use Rattle.tree_match.specs.Trees.{IsWalkOf, Side}
-use Rattle.vault_read.specs.Laws.{HasOwnFolders, HaveOneAnswer}
+use Rattle.vault_read.specs.Laws.{HaveOneAnswer}
+use Rattle.vault_read.specs.OwnFolders.{HasOwnFolders}
 use Rattle.vault_spec.specs.Making.{NewItem, NewDirectory, NewFile}
 use Rattle.vault_spec.specs.Opens as opens
 use Rattle.vault_spec.specs.Opens.{Opened, NoItem, Tree, tree}

@@ -25,7 +25,8 @@ use Rattle.migrate_core.specs.declared.placing.Done.{Done}
 use Rattle.migration_sides.specs.Sides.{opened_in}
 use Rattle.plain_tree.specs.Names as plain
 use Rattle.plain_tree.specs.declared.name_map.NameMap.TheVariants.{Same}
-use Rattle.vault_read.specs.Laws.{HasOwnFolders, HaveOneAnswer}
+use Rattle.vault_read.specs.Laws.{HaveOneAnswer}
+use Rattle.vault_read.specs.OwnFolders.{HasOwnFolders}
 use Rattle.vault_read.specs.declared.vault.VaultKind.TheVariants as kind
 use Rattle.vault_read.specs.Opened.{kind_of}
 use Rattle.vault_spec.specs.Opens.{AreItems, Tree, tree}

@@ -26,7 +26,7 @@ use Rattle.folder_spec.specs.Apart.{AreSeparate}
 use Rattle.tree_match.specs.Trees.{Side, HoldsAllBy, AsSame, IsMappedWalkOf, IsWalkOf, match_of, side_of, tree_of}
 use Rattle.tree_match.specs.declared.answer.Match.TheVariants.{Same}
 use Rattle.vault_spec.specs.Opened.{OpenedVault}
-use Rattle.vault_read.specs.Laws.{HasOwnFolders}
+use Rattle.vault_read.specs.OwnFolders.{HasOwnFolders}
 use Rattle.vault_spec.specs.Findings.{IsClean}
 use Rattle.vault_spec.specs.Format.{Format}
 use Rattle.vault_spec.specs.Opens.{Opened, NoItem, Directory, Content, Broken, Tree, opened, tree}

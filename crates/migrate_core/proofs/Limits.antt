@@ -32,7 +32,7 @@ use Rattle.tree_match.specs.declared.answer.MatchFault.{MatchFault}
 use Rattle.tree_match.specs.declared.answer.MatchFault.TheVariants as match
 use Rattle.vault_read.specs.Contents.{limited_reading}
 use Rattle.vault_faults.specs.Limits.{content_limit}
-use Rattle.vault_read.specs.Laws.{HasOwnFolders}
+use Rattle.vault_read.specs.OwnFolders.{HasOwnFolders}
 use Rattle.vault_spec.specs.Opened.{OpenedVault}
 use Rattle.vault_faults.specs.declared.fault.Limit.TheVariants as limit
 use Rattle.vault_spec.proofs.Endings.{whole_ends}

@@ -7,7 +7,7 @@ use Rattle.folder_spec.specs.State.{State, IsSound}
 use Rattle.folder_spec.specs.Event.{Settle, Told, FromTo, Changes}
 use Rattle.folder_spec.specs.Moments.{Went}
 use Rattle.folder_spec.specs.Region.{IsAsBefore, apart_from, apart_from_both}
-use Rattle.folder_spec.specs.Seen.{IsSeen, seen, under}
+use Rattle.folder_spec.specs.Seen.{IsSeen, seen, under, ShowsFile}
 use Rattle.folder_spec.specs.View.{View}
 use Rattle.folder_spec.proofs.Moments.{went_to}
 use Rattle.folder_spec.proofs.Paths.{below-apart}
@@ -17,9 +17,9 @@ use Rattle.migration_sides.specs.Sides.{IsWalked}
 use Rattle.folder_spec.specs.Apart.{AreSeparate}
 use Rattle.migration_spec.proofs.Kept.{not_staged, turned, beside_of}
 use Rattle.plain_tree.specs.declared.name_map.NameMap.{NameMap}
-use Rattle.vault_read.specs.Laws.{HasOwnFolders}
+use Rattle.vault_read.specs.OwnFolders.{HasOwnFolders}
 use Rattle.vault_spec.specs.Opened.{OpenedVault}
-use Rattle.vault_spec.specs.Findings.{IsClean, IsFileAt}
+use Rattle.vault_spec.specs.Findings.{IsClean}
 use Rattle.vault_spec.specs.Plan.{Planned}
 use Rattle.vault_spec.specs.Vault.{format_of}
 use Rattle.vault_walk.specs.Surveyed.{IsPlanOf}
@@ -106,7 +106,7 @@ walked_stays region from items (Some a) (Some b) inside sound stayed walked = re
   ordered = λ v is. walked.ordered (seen a.state) refl;
   files = λ v is item among file.
       let at = walked.behind item among in
-      let there : IsFileAt (seen a.state) item.at = walked.files (seen a.state) refl item among file in
+      let there : ShowsFile (seen a.state) item.at = walked.files (seen a.state) refl item among file in
       (there.0, ap (λ (w : View). w item.at) is ∙ seen_as_before region a.state b.state (sound a refl) stayed item.at (subst (λ p. IsTrue (region p)) (sym at.1) (inside at.0)) ∙ there.1);
   behind = walked.behind;
   size = walked.size;

@@ -12,7 +12,7 @@ use Rattle.vault_contents.specs.VaultContents.{path_of, coming_of}
 use Rattle.vault_contents.specs.declared.vault_content.VaultContent.{VaultContent}
 use Rattle.folder_spec.specs.Path.{Path, below}
 use Rattle.folder_spec.specs.Event.{Told}
-use Rattle.folder_spec.specs.Seen.{IfSeen, IsSeen, seen, under}
+use Rattle.folder_spec.specs.Seen.{IfSeen, IsSeen, seen, under, ShowsFile}
 use Rattle.folder_spec.specs.State.{State}
 use Rattle.folder_spec.specs.View.{View, FileOf, Found}
 use Rattle.vault_spec.specs.Mapped.{IsMappedItem}
@@ -30,7 +30,6 @@ use Rattle.tree_match.specs.Trees.{Side, IsMappedWalkOf, IsWalkOf, side_of, tree
 use Rattle.vault_read.specs.Contents.{Reader, limited_reading}
 use Rattle.vault_spec.specs.Opened.{OpenedVault}
 use Rattle.vault_spec.specs.Alike.{IsOrderly}
-use Rattle.vault_spec.specs.Findings.{IsFileAt}
 use Rattle.vault_spec.specs.Opens.{Content, Directory, Opened, Tree}
 use Rattle.vault_spec.specs.Plan.{Planned}
 use Rattle.vault_spec.specs.Vault.{format_of}
@@ -55,10 +54,10 @@ pub mapped_walk_of : (rule : NameMap) (from : OpenedVault) (items : List Planned
 mapped_walk_of rule from items t v walked is orderly = record { own = walked.own; walk = walk_of from walked.own t v walked.walked is orderly; mapped = walked.mapped }
 
 -- where each file of it is one is there
-pub mapped_files : (rule : NameMap) (from : OpenedVault) (items : List Planned) (t : Option Told) → IsMappedWalk rule t from items → IfSeen t (λ v. (item : Planned) → Contains items item → item.node ≡ File → IsFileAt v item.at)
+pub mapped_files : (rule : NameMap) (from : OpenedVault) (items : List Planned) (t : Option Told) → IsMappedWalk rule t from items → IfSeen t (λ v. (item : Planned) → Contains items item → item.node ≡ File → ShowsFile v item.at)
 mapped_files rule from items t walked v is item among node =
     let own = own_item rule walked.own items item walked.mapped among in
-    subst (λ (x : Planned). IsFileAt v x.at) own.2 (walked.walked.files v is own.0 own.1 (ap (λ (x : Planned). x.node) own.2 ∙ node))
+    subst (λ (x : Planned). ShowsFile v x.at) own.2 (walked.walked.files v is own.0 own.1 (ap (λ (x : Planned). x.node) own.2 ∙ node))
 
 -- and each item stands behind the vault's root
 pub mapped_behind : (rule : NameMap) (from : OpenedVault) (items : List Planned) (t : Option Told) → IsMappedWalk rule t from items → (item : Planned) → Contains items item → (rest : Path) × (item.at ≡ from.root ++ rest)
@@ -130,7 +129,7 @@ file_opens opens fits rule from t a item is of walk node content ending told who
     keys : Keys
     keys = (format_of from.vault).content
 
-    there : IsFileAt (seen a.state) item.at
+    there : ShowsFile (seen a.state) item.at
     there = mapped_files rule from of.items t of.walked (seen a.state) (seen_of t a is) item of.among node
 
     read : reading.Reading
@@ -189,7 +188,7 @@ is_told e = subst IsTold (sym e) tt
 pub content_ready : FilesFit → (rule : NameMap) (from : OpenedVault) (item : Planned) (content : VaultContent) → IsContentOf from item content → (t : Option Told) → IsItemOf rule t from item → item.node ≡ File
     → IsReady (path_of content) t (coming_of content)
 content_ready fits rule from item content is t of node = subst (λ r. IsReady r t (coming_of content)) (sym is.reads) (λ v shown.
-    let there : IsFileAt v item.at = mapped_files rule from of.items t of.walked v shown item of.among node in
+    let there : ShowsFile v item.at = mapped_files rule from of.items t of.walked v shown item of.among node in
     is_told (is.coming (v item.at) ∙ ap (coming_read (reader_of from item) content_limit []) there.1 ∙ fits (format_of from.vault).content item.at there.0))
 
 pub content_elsewhere : (rule : NameMap) (from : OpenedVault) (to work : Path) (item : Planned) (content : VaultContent) → IsContentOf from item content → AreSeparate from.root to work

@@ -16,7 +16,7 @@ use Rattle.tree_match.specs.Trees.{AndFurther, AsSame, HoldsAllBy, IsMappedWalkO
 use Rattle.tree_match.specs.declared.answer.Match.{Match}
 use Rattle.tree_match.specs.declared.answer.Match.TheVariants.{Contained, Differs, Same}
 use Rattle.move_journal.specs.declared.journal.Journal.{Journal}
-use Rattle.vault_read.specs.Laws.{HasOwnFolders}
+use Rattle.vault_read.specs.OwnFolders.{HasOwnFolders}
 use Rattle.vault_spec.specs.Opened.{OpenedVault}
 use Rattle.vault_spec.proofs.Mapped.{contains_mapped}
 use Rattle.vault_spec.specs.Alike.{HasFolders, IsOrderly}

@@ -5,7 +5,7 @@ use Rattle.folder_spec.proofs.Moments.{went_more}
 use Rattle.folder_spec.proofs.Tellings.{from_to_more}
 use Rattle.folder_spec.specs.Event.{Told}
 use Rattle.folder_spec.specs.Moments.{Went}
-use Rattle.folder_spec.specs.Seen.{IfSeen, seen, under}
+use Rattle.folder_spec.specs.Seen.{IfSeen, seen, under, ShowsFile}
 use Rattle.folder_spec.specs.State.{State}
 use Rattle.folder_spec.specs.View.{View}
 use Rattle.folder_spec.proofs.Paths.{base_or_child}
@@ -27,7 +27,6 @@ use Rattle.tree_match.specs.Comparing.{bytes_found, content_at}
 use Rattle.vault_read.specs.Contents.{limited_reading}
 use Rattle.vault_spec.specs.Opened.{OpenedVault}
 use Rattle.vault_spec.specs.Find.{Refusal, enter}
-use Rattle.vault_spec.specs.Findings.{IsFileAt}
 use Rattle.vault_spec.specs.Format.{Directory}
 use Rattle.vault_spec.specs.Making.{NewDirectory, NewFile, NewItem, draws}
 use Rattle.vault_spec.specs.Plan.{Planned}
@@ -207,7 +206,7 @@ pub content_told : FilesFit → (rule : NameMap) (from : OpenedVault) (item : Pl
 content_told fits rule from item None content ending node of told v is = absurd is
 content_told fits rule from item (Some a) content ending node of told v is =
     let keys : Keys = (format_of from.vault).content in
-    let there : IsFileAt (seen a.state) item.at = mapped_files rule from of.items (Some a) of.walked (seen a.state) refl item of.among node in
+    let there : ShowsFile (seen a.state) item.at = mapped_files rule from of.items (Some a) of.walked (seen a.state) refl item of.among node in
     let coming : held_before item.at [] (limited_reading keys there.0) ≡ record { bytes = content; ending = ending } =
     told a refl (held_before item.at [] (limited_reading keys there.0)) (ap (coming_read (reader_of from item) content_limit []) there.1 ∙ fits keys item.at there.0) in
     let found : bytes_found (v item.at) ≡ there.0 = ap (λ (w : View). bytes_found (w item.at)) is ∙ ap bytes_found there.1 in

@@ -6,7 +6,7 @@ use Rattle.folder_spec.specs.View.{View}
 use Rattle.plain_tree.specs.Names as plain
 use Rattle.plain_tree.specs.declared.name_map.NameMap.{NameMap}
 use Rattle.vault_spec.specs.Mapped.{IsPartOf}
-use Rattle.vault_read.specs.Laws.{HasOwnFolders}
+use Rattle.vault_read.specs.OwnFolders.{HasOwnFolders}
 use Rattle.vault_spec.specs.Opened.{OpenedVault}
 use Rattle.vault_spec.specs.Find.{enter}
 use Rattle.vault_spec.specs.Format.{Directory}

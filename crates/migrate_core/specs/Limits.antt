@@ -16,7 +16,7 @@ use Rattle.plain_tree.specs.declared.name_map.NameMap.{NameMap}
 use Rattle.tree_match.specs.Comparing.{Content, content_at}
 use Rattle.tree_match.specs.declared.answer.MatchFault.TheVariants as match
 use Rattle.vault_faults.specs.Limits.{content_limit}
-use Rattle.vault_read.specs.Laws.{HasOwnFolders}
+use Rattle.vault_read.specs.OwnFolders.{HasOwnFolders}
 use Rattle.vault_spec.specs.Opened.{OpenedVault}
 use Rattle.vault_faults.specs.declared.fault.Limit.TheVariants as limit
 use Rattle.vault_spec.specs.Opens as opens

@@ -11,7 +11,7 @@ use Rattle.move_journal.specs.declared.journal.Journal.{Journal}
 use Rattle.move_journal.specs.declared.journal.Phase.TheVariants as phase
 use Rattle.plain_tree.specs.declared.name_map.NameMap.{NameMap}
 use Rattle.tree_match.specs.Matching.{item_with}
-use Rattle.vault_read.specs.Laws.{HasOwnFolders}
+use Rattle.vault_read.specs.OwnFolders.{HasOwnFolders}
 use Rattle.vault_spec.specs.Opened.{OpenedVault}
 use Rattle.vault_spec.specs.Findings.{IsClean}
 use Rattle.vault_spec.specs.Plan.{Planned}

@@ -14,7 +14,7 @@ ghost use Rattle.migrate_core.specs.Faults.{IsMoveFault};
 ghost use Rattle.migrate_core.specs.Limits.{HasSmallContents, IsLonger, PassesLimit};
 ghost use Rattle.migrate_core.specs.declared.fault.MoveFault.{MoveFault};
 ghost use Rattle.migrate_core.specs.declared.placing.Done.{Done};
-ghost use Rattle.vault_read.specs.Laws.{HasOwnFolders};
+ghost use Rattle.vault_read.specs.OwnFolders.{HasOwnFolders};
 ghost use Rattle.vault_spec.specs.Opened.{OpenedVault};
 ghost use Rattle.vault_spec.specs.Alike.{HasFolders};
 ghost use Rattle.vault_spec.specs.Standing.{File, standing};

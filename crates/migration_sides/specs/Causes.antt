@@ -11,7 +11,7 @@ use Rattle.migration_sides.specs.declared.fault.Side.{Side}
 use Rattle.migration_sides.specs.declared.fault.Side.TheVariants.{Source, Target}
 use Rattle.migration_sides.specs.declared.fault.StepFault.{StepFault}
 use Rattle.migration_sides.specs.declared.fault.StepFault.TheVariants.{Overlap, Load, Failed, NoMemory}
-use Rattle.vault_read.specs.Laws.{HasOwnFolders}
+use Rattle.vault_read.specs.OwnFolders.{HasOwnFolders}
 use Rattle.vault_spec.specs.Opened.{OpenedVault}
 use Rattle.vault_faults.specs.declared.fault.Limit.TheVariants as limit
 use Rattle.vault_read.specs.declared.fault.LoadFault.{LoadFault}

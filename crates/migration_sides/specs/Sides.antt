@@ -2,13 +2,13 @@
 use Rattle.std.specs.Prelude.{◌≡◌, ◌<◌, ◌++◌, ◌≤◌, List, length, Option, Contains}
 use Rattle.folder_spec.specs.Event.{Told}
 use Rattle.folder_spec.specs.Path.{Path}
-use Rattle.folder_spec.specs.Seen.{IfSeen, under}
+use Rattle.folder_spec.specs.Seen.{IfSeen, under, ShowsFile}
 use Rattle.folder_spec.specs.View.{NoEntry, View}
 use Rattle.folder_staging.specs.Removal.{deepest}
 use Rattle.plain_tree.specs.declared.NodeKind.TheVariants.{File}
-use Rattle.vault_read.specs.Laws.{HasOwnFolders}
+use Rattle.vault_read.specs.OwnFolders.{HasOwnFolders}
 use Rattle.vault_spec.specs.Opened.{OpenedVault}
-use Rattle.vault_spec.specs.Findings.{IsClean, IsFileAt}
+use Rattle.vault_spec.specs.Findings.{IsClean}
 use Rattle.vault_spec.specs.Plan.{Planned}
 use Rattle.vault_spec.specs.Vault.{Vault, format_of}
 use Rattle.vault_walk.specs.Survey.{IsOrdered, item_limit}
@@ -22,7 +22,7 @@ opened_in root vault = record { root = root; vault = vault }
 pub record IsWalked (told : Option Told) (a : OpenedVault) (items : List Planned) : Type 0 where
   pub clean : IfSeen told (λ v. IsClean (format_of a.vault) (under a.root v))
   pub ordered : IfSeen told (λ v. IsOrdered items)
-  pub files : IfSeen told (λ v. (item : Planned) → Contains items item → item.node ≡ File → IsFileAt v item.at)
+  pub files : IfSeen told (λ v. (item : Planned) → Contains items item → item.node ≡ File → ShowsFile v item.at)
   pub behind : (item : Planned) → Contains items item → (rest : Path) × (item.at ≡ a.root ++ rest)
   pub size : length items ≤ item_limit
   pub plan : IfSeen told (λ v. HasOwnFolders a.vault (under a.root v) → IsPlanOf a.root (format_of a.vault) (under a.root v) items)

@@ -1,14 +1,14 @@
 -- A clean vault has only files and directories below its root.
 use Rattle.std.proofs.Common.{◌≡◌, ◌≢◌, ◌⊎◌, ℕ, Bool, true, false, cond, ◌&&◌, ◌||◌, List, [], ◌∷◌, ◌++◌, Ok, Err, Result, Option, Some, None, refl, sym, ap, ◌∙◌, inl, inr, subst, append-nil, append_assoc, bytes_eq, is_some}
 use Rattle.folder_spec.specs.Path.{Part, Path, child}
-use Rattle.folder_spec.specs.Seen.{under}
+use Rattle.folder_spec.specs.Seen.{under, ShowsFile}
 use Rattle.folder_spec.specs.View.{FileOf, Folder, Found, NoEntry, Special, View}
 use Rattle.vault_values.specs.declared.keys.GoKeys.{GoKeys}
 use Rattle.plain_tree.specs.Names as plain
 use Rattle.plain_tree.specs.Names.{is_name}
 use Rattle.vault_spec.specs.Alike.{HasFolders, IsOrderly}
 use Rattle.vault_spec.specs.Cryptomator.{CmVault, cm_item_of, content_file, file_role, full_file, folder_item, has_file, id_file, is_base32_text, symlink_file, top}
-use Rattle.vault_spec.specs.Findings.{Belongs, IsClean, IsEntryOf, IsFileAt, IsLocked}
+use Rattle.vault_spec.specs.Findings.{Belongs, IsClean, IsEntryOf, IsLocked}
 use Rattle.vault_spec.specs.Format.{ContentFolder, Directory, DirectoryItem, Extra, FileItem, Format, Item, NoItem, is_folder, key_of}
 use Rattle.vault_spec.specs.Gocryptfs.{go_item}
 use Rattle.vault_spec.specs.Reached.{IsReached, Leads}
@@ -100,13 +100,13 @@ module _ (accounted : AreAccounted) (vault : Vault) (v : View) (clean : IsClean 
   entry_found dir entry name of = ap v (append-nil (child dir.folder (f.stored dir.key name).name)) ∙ ap (λ a. v (child dir.folder a)) of.stores
 
   -- an entry that is no file is accounted for by its name
-  named : (dir : Directory) (entry : Part) → IsReached f v dir → v (child dir.folder entry) ≢ NoEntry → ¬ IsFileAt v (child dir.folder entry) → ¬ ((name : List ℕ) → ¬ IsEntryOf f v dir entry name)
+  named : (dir : Directory) (entry : Part) → IsReached f v dir → v (child dir.folder entry) ≢ NoEntry → ¬ ShowsFile v (child dir.folder entry) → ¬ ((name : List ℕ) → ¬ IsEntryOf f v dir entry name)
   named dir entry reached there no_file = accounted vault v dir entry clean reached there (λ belongs. no_file belongs.file)
 
-  not_folder_file : (p : Path) → v p ≡ Folder → ¬ IsFileAt v p
+  not_folder_file : (p : Path) → v p ≡ Folder → ¬ ShowsFile v p
   not_folder_file p is file = no_folder (sym is ∙ file.1)
 
-  not_special_file : (p : Path) → v p ≡ Special → ¬ IsFileAt v p
+  not_special_file : (p : Path) → v p ≡ Special → ¬ ShowsFile v p
   not_special_file p is file = no_special (sym is ∙ file.1)
 
   -- a directory there is reached

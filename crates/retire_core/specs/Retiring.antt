@@ -16,7 +16,7 @@ use Rattle.move_journal.specs.Reading.{StandsIn}
 use Rattle.migration_spec.specs.Guard.{old_path}
 use Rattle.vault_spec.specs.Mapped.{IsHeldIn}
 use Rattle.plain_tree.specs.declared.name_map.NameMap.{NameMap}
-use Rattle.vault_read.specs.Laws.{HasOwnFolders}
+use Rattle.vault_read.specs.OwnFolders.{HasOwnFolders}
 use Rattle.vault_spec.specs.Opened.{OpenedVault}
 use Rattle.vault_spec.specs.Opens.{tree}
 use Rattle.vault_spec.specs.Vault.{Vault, IsVault, format_of}

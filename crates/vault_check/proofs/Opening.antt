@@ -19,7 +19,7 @@ use Rattle.vault_spec.specs.Reached.{HaveOwnFolders}
 use Rattle.vault_values.specs.declared.keys.GoKeys.{GoKeys}
 use Rattle.vault_spec.specs.Gocryptfs.{go_format}
 use Rattle.vault_spec.specs.Vault.{Vault, Gocryptfs, Cryptomator, format_of}
-use Rattle.vault_read.specs.Laws as read
+use Rattle.vault_read.specs.OwnFolders as read
 use Rattle.vault_check.specs.Repairing.{AreMoved, AreStraysBehind, HasMoved, HasMovedSome, IsRepairing, Unchanged, Moving, behind, is_gone}
 use Rattle.folder_spec.specs.Apart.{AreApart}
 use Rattle.vault_check.proofs.Contained.{first_or_later, further, none_within}

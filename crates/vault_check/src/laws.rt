@@ -9,7 +9,7 @@ ghost use Rattle.folder_spec.specs.View.{view_of};
 ghost use Rattle.vault_spec.specs.Adding.{OpensAs};
 ghost use Rattle.vault_spec.specs.Moving.{IsStray};
 ghost use Rattle.vault_spec.specs.Vault.{format_of};
-ghost use Rattle.vault_read.specs.Laws.{HasOwnFolders};
+ghost use Rattle.vault_read.specs.OwnFolders.{HasOwnFolders};
 ghost use Rattle.vault_check.specs.Repairing.{AreMoved, IsRepairing};
 ghost use Rattle.folder_spec.specs.Apart.{AreApart};
 

@@ -1,22 +1,16 @@
--- Laws of opened vaults.
+-- Laws of opened vaults, each a definition that laws.rt shows to hold.
 use Rattle.std.specs.Prelude.{◌≡◌, ℕ, List}
 use Rattle.folder_spec.specs.View.{View}
 use Rattle.vault_spec.specs.Adding.{NewItemsComeAlone, NewItemsStayClean, ContentsAreReplacedAlone, ReplacedContentsStayClean}
 use Rattle.vault_spec.specs.Anywhere.{NewItemsComeAtLast, ContentsOpenAnew}
 use Rattle.vault_spec.specs.Format.{Format}
-use Rattle.vault_spec.specs.Reached.{HaveOwnFolders}
 use Rattle.vault_spec.specs.Staying.{NewItemsStayVaults, ReplacedContentsStayVaults}
 use Rattle.vault_spec.specs.Tidy.{NewItemsStayTidy, OwnPlacesAreFree, ReplacedContentsStayTidy}
-use Rattle.vault_spec.specs.Vault.{Answer, Loads, Vault, Gocryptfs, Cryptomator, format_of}
+use Rattle.vault_spec.specs.Vault.{Answer, Loads}
 
 -- a root and a passphrase have one answer at most
 abbrev pub HaveOneAnswer : Type 0
 HaveOneAnswer = (v : View) (pass : List ℕ) (a b : Answer) → Loads v pass a → Loads v pass b → a ≡ b
-
--- what a vault is to have so that one path leads to each of its directories: in Cryptomator, no two ids with one folder
-abbrev pub HasOwnFolders : Vault → View → Type 0
-HasOwnFolders (Gocryptfs keys) v = Unit {0}
-HasOwnFolders (Cryptomator cm) v = HaveOwnFolders (format_of (Cryptomator cm)) v
 
 -- what holds of a format while an item is made, and while a content is replaced
 pub record KeepsVaults (f : Format) : Type 0 where

@@ -7,5 +7,6 @@ pub mod Stands
 pub mod Finding
 pub mod Contents
 pub mod Reading
+pub mod OwnFolders
 pub mod Laws
 pub mod Listing

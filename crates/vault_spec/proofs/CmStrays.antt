@@ -2,10 +2,10 @@
 use Rattle.std.proofs.Common.{◌≡◌, ◌≢◌, ◌⊎◌, ◌&&◌, ◌||◌, ℕ, Bool, true, false, List, [], ◌∷◌, ◌++◌, cond, refl, sym, ap, ◌∙◌, inl, inr, IsTrue, take, drop, bytes_eq}
 use Rattle.std.proofs.lemmas.Slice.Eq.{bytes_eq-Decides}
 use Rattle.folder_spec.specs.Path.{Part, Path}
+use Rattle.folder_spec.specs.Seen.{ShowsFile}
 use Rattle.folder_spec.specs.View.{Found, Folder, FileOf, View}
 use Rattle.vault_names.specs.Cryptomator.{cm_folder_of}
 use Rattle.vault_spec.specs.StoredNames.{CmTexts}
-use Rattle.vault_spec.specs.Findings.{IsFileAt}
 use Rattle.vault_spec.specs.Format.{Item, Nothing, FileItem, DirectoryItem, NoItem, Expected, Shelf, ContentFolder, Extra, is_file}
 use Rattle.vault_spec.specs.Cryptomator.{CmVault, cm_format, cm_item, cm_item_of, cm_role, content_file, content_folder, file_role, folder_item, folder_role, full_file, has_file, id_file, inner_role, is_base32_text, is_configuration, symlink_file, top}
 use Rattle.vault_spec.specs.Moving.{StraysGoAlone}
@@ -49,7 +49,7 @@ mark_is m false true c one two three is = inr (inl ((bytes_eq-Decides m content_
 mark_is m false false true one two three is = inr (inr ((bytes_eq-Decides m symlink_file).0 three))
 mark_is m false false false one two three is = cc
 
-mark_belongs : (long : Bool) (v : View) (m : Part) → v [] ≡ Folder → IsTrue (is_mark m) → IsFileAt v (m ∷ []) → inner_role long (cm_item long v) m (v (m ∷ [])) ≡ Expected
+mark_belongs : (long : Bool) (v : View) (m : Part) → v [] ≡ Folder → IsTrue (is_mark m) → ShowsFile v (m ∷ []) → inner_role long (cm_item long v) m (v (m ∷ [])) ≡ Expected
 mark_belongs long v m there mark file =
     by_mark (mark_is m (bytes_eq m id_file) (bytes_eq m content_file) (bytes_eq m symlink_file) refl refl refl mark)
   where

@@ -1,6 +1,6 @@
 -- Cryptomator's format is lawful.
+use Rattle.folder_spec.specs.Seen.{ShowsFile}
 use Rattle.vault_spec.specs.StoredNames.{CmTexts}
-use Rattle.vault_spec.specs.Findings.{IsFileAt}
 use Rattle.vault_spec.proofs.PathEnds.{child-both}
 use Rattle.std.proofs.Common.{◌≡◌, ◌≢◌, ℕ, Bool, true, false, ◌&&◌, ◌||◌, List, [], ◌∷◌, ◌++◌, cond, refl, sym, ap, ◌∙◌, inr, subst, Some, None, Option, IsTrue, length, codes, arith, nat_le, bytes_eq, ◌⊎◌, ◌+◌, inl, length-append, append-nil, is_some}
 use Rattle.std.proofs.lemmas.List.{append_cancel_right}
@@ -75,7 +75,7 @@ file_there Folder e = cc
 file_there (FileOf bytes) e = (bytes, refl)
 file_there Special e = cc
 
-pub content_is : (long : Bool) (v : View) (x : Found) → v [] ≡ x → (rest : Path) → cm_item_of long v x ≡ FileItem rest → IsFileAt v rest
+pub content_is : (long : Bool) (v : View) (x : Found) → v [] ≡ x → (rest : Path) → cm_item_of long v x ≡ FileItem rest → ShowsFile v rest
 content_is long v NoEntry is rest e = cc
 content_is true v (FileOf bytes) is rest e = cc
 content_is false v (FileOf bytes) is rest e = let same : [] ≡ rest = cc in (bytes, ap v (sym same) ∙ is)
@@ -83,7 +83,7 @@ content_is true v Special is rest e = cc
 content_is false v Special is rest e = cc
 content_is long v Folder is rest e =
     let both : (rest ≡ content_file ∷ []) × (has_file v content_file ≡ true) = folder_content v long (has_file v content_file) (has_file v id_file) (has_file v symlink_file) rest e in
-    subst (IsFileAt v) (sym both.0) (file_there (v (content_file ∷ [])) both.1)
+    subst (ShowsFile v) (sym both.0) (file_there (v (content_file ∷ [])) both.1)
 
 both_expected : (b : Bool) → cond b Expected Expected ≡ Expected
 both_expected true = refl

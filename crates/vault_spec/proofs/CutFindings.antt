@@ -2,13 +2,13 @@
 use Rattle.std.proofs.Common.{◌≡◌, ◌≢◌, ℕ, Bool, true, false, List, [], ◌++◌, Err, Result, refl, sym, ap, ◌∙◌, inl, inr, subst, IsTrue, is_some}
 use Rattle.folder_spec.specs.Path.{Part, Path, child}
 use Rattle.folder_spec.specs.View.{NoEntry, FileOf, View}
-use Rattle.folder_spec.specs.Seen.{under}
+use Rattle.folder_spec.specs.Seen.{under, ShowsFile}
 use Rattle.vault_spec.specs.declared.Finding.{Finding}
 use Rattle.vault_spec.specs.declared.Finding.TheVariants as is
 use Rattle.vault_spec.specs.declared.Lack.{Lack}
 use Rattle.vault_spec.specs.declared.Lack.TheVariants as lacks
 use Rattle.vault_spec.specs.Alike.{IsNoItem}
-use Rattle.vault_spec.specs.Findings.{IsFileAt, IsEntryOf, Belongs, IsUnnamed, IsDirectoryItem, IsLocked, IsFullTextOf, IsOrphanName, IsTwice, IsLoose, IsFixed, IsOrphanFolder, IsInside, IsExtra, IsDamaged, HasFault, IsFinding}
+use Rattle.vault_spec.specs.Findings.{IsEntryOf, Belongs, IsUnnamed, IsDirectoryItem, IsLocked, IsFullTextOf, IsOrphanName, IsTwice, IsLoose, IsFixed, IsOrphanFolder, IsInside, IsExtra, IsDamaged, HasFault, IsFinding}
 use Rattle.vault_spec.specs.Findings as findings
 use Rattle.vault_spec.specs.Format.{Format, Directory, Nothing, NoItem, Expected, ContentFolder, Extra, key_of}
 use Rattle.vault_spec.specs.Moving.{cut}
@@ -35,10 +35,10 @@ on : (f : Format) (lawful : IsLawful f) (v : View) (gone : Path → Bool) → Is
 on f lawful v gone is_cut dir reached = (reached.0, led_on f v (cut gone v) (cut_alike f lawful v gone is_cut) reached.0 dir reached.1)
 
 -- a file that stays is one, and was one
-file_on : (v : View) (gone : Path → Bool) (at : Path) → gone at ≡ false → IsFileAt v at → IsFileAt (cut gone v) at
+file_on : (v : View) (gone : Path → Bool) (at : Path) → gone at ≡ false → ShowsFile v at → ShowsFile (cut gone v) at
 file_on v gone at stays file = (file.0, kept v gone at stays ∙ file.1)
 
-file_back : (v : View) (gone : Path → Bool) (at : Path) → IsFileAt (cut gone v) at → (gone at ≡ false) × IsFileAt v at
+file_back : (v : View) (gone : Path → Bool) (at : Path) → ShowsFile (cut gone v) at → (gone at ≡ false) × ShowsFile v at
 file_back v gone at file = (stays, (file.0, sym (kept v gone at stays) ∙ file.1))
   where
     stays : gone at ≡ false
@@ -181,7 +181,7 @@ orphan_back f lawful v gone is_cut at u = (
   was.0,
 )
   where
-    was : (gone at ≡ false) × IsFileAt v at
+    was : (gone at ≡ false) × ShowsFile v at
     was = file_back v gone at u.there
 
     -- the text of an entry is in this file, which stays
@@ -274,7 +274,7 @@ fault_back f lawful v gone is_cut finding at u = (
     reached : IsReached f v u.damaged.dir
     reached = back f lawful v gone is_cut u.damaged.dir u.damaged.reached
 
-    was : (gone at ≡ false) × IsFileAt v at
+    was : (gone at ≡ false) × ShowsFile v at
     was = file_back v gone at (u.damaged.bytes, u.damaged.there)
 
 pub found_back : (f : Format) (lawful : IsLawful f) (v : View) (gone : Path → Bool) → IsCut f lawful v gone → (finding : Finding) (at : Path) → finding ≢ is.EmptyOrphan → IsFinding f (cut gone v) finding at → Was f v gone finding at

@@ -3,9 +3,9 @@ use Rattle.std.proofs.Common.{◌≡◌, ◌≢◌, ◌||◌, ℕ, Bool, true, f
 use Rattle.std.specs.Option.{option_and_then}
 use Rattle.folder_spec.specs.Path.{Part, Path, child}
 use Rattle.folder_spec.specs.View.{Found, NoEntry, Folder, FileOf, Special, View, kind_found}
-use Rattle.folder_spec.specs.Seen.{under}
+use Rattle.folder_spec.specs.Seen.{under, ShowsFile}
 use Rattle.plain_tree.specs.Names.{is_name}
-use Rattle.vault_spec.specs.Findings.{IsFileAt, IsEntryOf}
+use Rattle.vault_spec.specs.Findings.{IsEntryOf}
 use Rattle.vault_spec.specs.Format.{Format, Directory, Expected, ContentFolder, Extra, is_file, file_bytes, key_of}
 use Rattle.vault_spec.specs.Moving.{IsStray, cut}
 use Rattle.vault_spec.specs.Reached.{IsReached}
@@ -55,7 +55,7 @@ inner_stray f lawful v gone is_cut dir reached name named x stray = by_place (st
     by_place (Unreached u) = let clash : Expected ≡ ContentFolder = sym (no_role (v (child (entry_at f dir name) x))) ∙ u.folder in cc
 
 -- a directory's key file is no stray
-pub key_stays : (f : Format) (lawful : IsLawful f) → IsNested f lawful → (v : View) (dir : Directory) → IsReached f v dir → (x : Part) → x ≡ f.key_file → IsFileAt v (child dir.folder x) → EntryStray f v dir x → ⊥
+pub key_stays : (f : Format) (lawful : IsLawful f) → IsNested f lawful → (v : View) (dir : Directory) → IsReached f v dir → (x : Part) → x ≡ f.key_file → ShowsFile v (child dir.folder x) → EntryStray f v dir x → ⊥
 key_stays f lawful nested v dir reached x key file (NoName stray unnamed) =
     stray (record { file = file; name = ap (λ b. b || f.is_full x) (ap (f.is_fixed dir.folder) key ∙ nested.fixed dir.folder) })
 key_stays f lawful nested v dir reached x key file (NoneOfName name of item) =
@@ -64,7 +64,7 @@ key_stays f lawful nested v dir reached x key file (NoText full wrong) = let cla
 
 -- nor is a mark of an item that is a file
 mark_stays : (f : Format) (lawful : IsLawful f) (v : View) (gone : Path → Bool) → IsCut f lawful v gone → (dir : Directory) → IsReached f v dir → (name : List ℕ) → IsTrue (is_name name) → (m : Part) → IsTrue (lawful.marks m)
-    → IsFileAt v (child (entry_at f dir name) m) → IsStray f v (child (entry_at f dir name) m) → ⊥
+    → ShowsFile v (child (entry_at f dir name) m) → IsStray f v (child (entry_at f dir name) m) → ⊥
 mark_stays f lawful v gone is_cut dir reached name named m mark file stray = by_inner (inner_stray f lawful v gone is_cut dir reached name named m stray)
   where
     above : v (entry_at f dir name ++ []) ≡ Folder
@@ -72,7 +72,7 @@ mark_stays f lawful v gone is_cut dir reached name named m mark file stray = by_
 
     by_inner : InnerStray f v dir name m → ⊥
     by_inner (OfFolder other reached_too same s) = elim is_cut.knows.layout [
-      | inl nested ↦ key_stays f lawful nested v other reached_too m (nested.mark m mark) (subst (λ p. IsFileAt v (child p m)) (sym same) file) s
+      | inl nested ↦ key_stays f lawful nested v other reached_too m (nested.mark m mark) (subst (λ p. ShowsFile v (child p m)) (sym same) file) s
       | inr flat ↦ never_in_entries f lawful flat v other dir reached_too reached (f.stored dir.key name).name [] (same ∙ sym (append-nil (entry_at f dir name)))
     ]
     by_inner (NoPlace extra) = is_cut.knows.mark_belongs (is_some (f.stored dir.key name).full) (under (entry_at f dir name) v) m above mark file extra
@@ -116,11 +116,11 @@ entry_key_stays f lawful v gone is_cut dir reached name named stays =
     ap (option_and_then f.key_in) (marks_stay f lawful v gone is_cut dir reached name named stays f.key_file lawful.key_is_mark)
 
 -- a text that stands in its file
-text_file : (v : View) (at : Path) (full : Option (List ℕ)) → is_some full ≡ true → holds v at full ≡ true → IsFileAt v at
+text_file : (v : View) (at : Path) (full : Option (List ℕ)) → is_some full ≡ true → holds v at full ≡ true → ShowsFile v at
 text_file v at None long held = cc
 text_file v at (Some text) long held = by_found (v at) refl
   where
-    by_found : (x : Found) → v at ≡ x → IsFileAt v at
+    by_found : (x : Found) → v at ≡ x → ShowsFile v at
     by_found (FileOf bytes) is = (bytes, is)
     by_found NoEntry is = let none : is_file_of text (file_bytes NoEntry) ≡ true = ap (λ x. is_file_of text (file_bytes x)) (sym is) ∙ held in cc
     by_found Folder is = let none : is_file_of text (file_bytes Folder) ≡ true = ap (λ x. is_file_of text (file_bytes x)) (sym is) ∙ held in cc
@@ -143,12 +143,12 @@ full_stays f lawful v gone is_cut dir reached name of stays long = elim (lawful.
     is_key : IsTrue (lawful.is_key dir.key)
     is_key = (reached_right f lawful v reached.0 dir reached.1).is_key
 
-    file : IsFileAt v (dir.folder ++ f.full_at (f.stored dir.key name).name)
+    file : ShowsFile v (dir.folder ++ f.full_at (f.stored dir.key name).name)
     file = text_file v (dir.folder ++ f.full_at (f.stored dir.key name).name) (f.stored dir.key name).full long of.full
 
     by_entry : (x : Part) → f.full_at (f.stored dir.key name).name ≡ x ∷ [] → EntryStray f v dir x → ⊥
     by_entry x place (NoName stray unnamed) =
-        stray (record { file = subst (λ r. IsFileAt v (dir.folder ++ r)) place file; name = right_or (f.is_fixed dir.folder x) (f.is_full x) (is_cut.knows.full_is_full dir.key name x is_key of.named long place) })
+        stray (record { file = subst (λ r. ShowsFile v (dir.folder ++ r)) place file; name = right_or (f.is_fixed dir.folder x) (f.is_full x) (is_cut.knows.full_is_full dir.key name x is_key of.named long place) })
       where
         right_or : (a b : Bool) → b ≡ true → (a || b) ≡ true
         right_or true b is = refl

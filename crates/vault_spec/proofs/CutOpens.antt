@@ -3,7 +3,7 @@ use Rattle.std.proofs.Common.{◌≡◌, ◌⊎◌, ℕ, Bool, true, false, List
 use Rattle.std.specs.Option.{option_and_then}
 use Rattle.folder_spec.specs.Path.{Part, Path, child}
 use Rattle.folder_spec.specs.View.{Found, View}
-use Rattle.folder_spec.specs.Seen.{under}
+use Rattle.folder_spec.specs.Seen.{under, ShowsFile}
 use Rattle.plain_tree.specs.Names as plain
 use Rattle.plain_tree.specs.Names.{is_name}
 use Rattle.vault_spec.specs.declared.Finding.TheVariants.{SymlinkFound}
@@ -11,7 +11,6 @@ use Rattle.vault_spec.specs.declared.Lack.{Lack}
 use Rattle.vault_spec.specs.declared.Lack.TheVariants.{NoFolder}
 use Rattle.vault_spec.specs.Adding.{OpensAs}
 use Rattle.vault_spec.specs.Alike.{IsNoItem, AreAlike, LooksAlike}
-use Rattle.vault_spec.specs.Findings.{IsFileAt}
 use Rattle.vault_spec.specs.Format.{Format, Directory, Item, Nothing, FileItem, DirectoryItem, NoItem, Expected, ContentFolder, Extra, is_folder, file_bytes, key_of}
 use Rattle.vault_spec.specs.Moving.{cut}
 use Rattle.vault_spec.specs.Reached.{Leads, IsReached}
@@ -70,7 +69,7 @@ entry_stands f lawful v gone is_cut path dir name leads named held stays =
         ∙ ap (directory_with f (cut gone v) (entry_at f dir name)) (entry_key_stays f lawful v gone is_cut dir (path, leads) name named stays)
 
 -- and so do the bytes of a content
-bytes_stay : (v : View) (gone : Path → Bool) (at : Path) → IsFileAt v at → file_bytes (v at) ≡ file_bytes (cut gone v at) → v at ≡ cut gone v at
+bytes_stay : (v : View) (gone : Path → Bool) (at : Path) → ShowsFile v at → file_bytes (v at) ≡ file_bytes (cut gone v at) → v at ≡ cut gone v at
 bytes_stay v gone at file same = elim (gone_or_not (gone at)) [
   | inr stays ↦ sym (kept v gone at stays)
   | inl goes ↦ let clash : Some file.0 ≡ None = ap file_bytes (sym file.1) ∙ same ∙ ap file_bytes (went v gone at goes) in cc
@@ -141,10 +140,10 @@ root_key_stays f lawful v gone is_cut = elim is_cut.knows.layout [
     no_role : IsNested f lawful → (there : Found) → f.role (f.key_file ∷ []) there ≡ Expected
     no_role nested there = ap (λ p. f.role (child p f.key_file ++ []) there) (sym (nested.own [] [])) ∙ is_cut.knows.entry_role [] [] f.key_file [] there
 
-    by_place : IsNested f lawful → IsFileAt v (f.key_file ∷ []) → StrayPlace f v (f.key_file ∷ []) → ⊥
+    by_place : IsNested f lawful → ShowsFile v (f.key_file ∷ []) → StrayPlace f v (f.key_file ∷ []) → ⊥
     by_place nested file (AtEntry s) =
         let both : ([] ≡ s.dir.folder) × (f.key_file ≡ s.x) = child-both [] s.dir.folder f.key_file s.x s.place in
-        key_stays f lawful nested v s.dir s.reached s.x (sym both.1) (subst (IsFileAt v) s.place file) s.stray
+        key_stays f lawful nested v s.dir s.reached s.x (sym both.1) (subst (ShowsFile v) s.place file) s.stray
     by_place nested file (InEntry u) =
         let clash : Expected ≡ Extra = sym (nested.inner (is_some (f.stored u.dir.key u.name).full) (item_at f v u.dir (f.stored u.dir.key u.name)) u.entry (v (f.key_file ∷ []))) ∙ u.extra in cc
     by_place nested file (Misplaced role) = let clash : Expected ≡ Extra = sym (no_role nested (v (f.key_file ∷ []))) ∙ role in cc

@@ -2,14 +2,14 @@
 use Rattle.std.proofs.Common.{◌≡◌, ◌≢◌, ◌⊎◌, ℕ, zero, suc, ◌+◌, Bool, true, false, List, [], ◌∷◌, ◌++◌, Ok, Result, cond, refl, sym, ap, ◌∙◌, inl, inr, subst, append_assoc, append-nil, IsTrue, is_some, length, length-append, arith}
 use Rattle.folder_spec.specs.Path.{Part, Path, child}
 use Rattle.folder_spec.specs.View.{Found, NoEntry, Folder, View}
-use Rattle.folder_spec.specs.Seen.{under}
+use Rattle.folder_spec.specs.Seen.{under, ShowsFile}
 use Rattle.folder_spec.proofs.Paths.{child_begins, child-not_base, base_or_child}
 use Rattle.plain_tree.specs.Names as plain
 use Rattle.plain_tree.specs.Names.{is_name}
 use Rattle.vault_spec.specs.declared.Finding.{Finding}
 use Rattle.vault_spec.specs.declared.Finding.TheVariants as is
 use Rattle.vault_spec.specs.Alike.{HasFolders}
-use Rattle.vault_spec.specs.Findings.{IsFileAt, IsEntryOf, Belongs, IsUnnamed, IsOrphanName, IsFullTextOf, IsInside, IsExtra, IsLoose, IsFinding}
+use Rattle.vault_spec.specs.Findings.{IsEntryOf, Belongs, IsUnnamed, IsOrphanName, IsFullTextOf, IsInside, IsExtra, IsLoose, IsFinding}
 use Rattle.vault_spec.specs.Findings as findings
 use Rattle.vault_spec.specs.declared.Lack.{Lack}
 use Rattle.vault_spec.specs.Format.{Format, Directory, Item, Nothing, FileItem, DirectoryItem, NoItem, Expected, ContentFolder, Extra}

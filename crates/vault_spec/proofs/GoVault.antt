@@ -1,6 +1,5 @@
 -- gocryptfs's format is lawful, and a new item of it comes alone.
 use Rattle.vault_spec.specs.StoredNames.{GoTexts}
-use Rattle.vault_spec.specs.Findings.{IsFileAt}
 use Rattle.vault_spec.proofs.PathEnds.{child-both}
 use Rattle.vault_names.specs.declared.entry.Stored.{Stored}
 use Rattle.std.proofs.Common.{◌≡◌, ◌≢◌, ℕ, ◌==◌, Bool, true, false, ◌&&◌, not, List, [], ◌∷◌, refl, sym, ap, ◌∙◌, inl, inr, subst, Some, None, Option, IsTrue, length, append-nil, bytes_eq, ◌++◌, ◌⊎◌, is_some, codes}
@@ -16,7 +15,7 @@ use Rattle.vault_values.specs.declared.keys.GoKeys.{GoKeys}
 use Rattle.json_fields.specs.Base64.{is_base64url}
 use Rattle.plain_tree.specs.Names.{is_name}
 use Rattle.vault_names.specs.Gocryptfs.{go_text, long_name, stored, entry_of}
-use Rattle.folder_spec.specs.Seen.{under}
+use Rattle.folder_spec.specs.Seen.{under, ShowsFile}
 use Rattle.plain_tree.specs.Names as plain
 use Rattle.vault_spec.specs.Reached.{Leads, HaveOwnFolders}
 use Rattle.vault_spec.proofs.Grafts.{IsRight, reached_right}
@@ -60,8 +59,8 @@ content_is (FileOf bytes) rest e = (cc, (bytes, refl))
 content_is Folder rest e = cc
 content_is Special rest e = cc
 
-pub go_content : (v : View) (rest : Path) → go_item (v []) ≡ FileItem rest → IsFileAt v rest
-go_content v rest e = let is : (rest ≡ []) × ((bytes : List ℕ) × (v [] ≡ FileOf bytes)) = content_is (v []) rest e in subst (IsFileAt v) (sym is.0) is.1
+pub go_content : (v : View) (rest : Path) → go_item (v []) ≡ FileItem rest → ShowsFile v rest
+go_content v rest e = let is : (rest ≡ []) × ((bytes : List ℕ) × (v [] ≡ FileOf bytes)) = content_is (v []) rest e in subst (ShowsFile v) (sym is.0) is.1
 
 pub content_or_entry : (x : Found) (rest : Path) → (rest ≡ []) ⊎ (go_item x ≡ FileItem rest) → rest ≡ []
 content_or_entry x rest (inl none) = none

@@ -1,10 +1,9 @@
 -- What stands in a vault once something comes to stand at a free place.
-use Rattle.vault_spec.specs.Findings.{IsFileAt}
 use Rattle.std.specs.Option.{option_and_then}
 use Rattle.std.proofs.Common.{◌≡◌, ◌≢◌, ◌⊎◌, ℕ, Bool, true, false, List, [], ◌∷◌, ◌++◌, Ok, Err, Result, cond, refl, sym, ap, ◌∙◌, inl, inr, subst, append_assoc, append-nil, Some, None, Option, IsTrue, is_some}
 use Rattle.folder_spec.specs.Path.{Part, Path, child}
 use Rattle.folder_spec.specs.View.{Found, NoEntry, Folder, FileOf, Special, View, kind_found}
-use Rattle.folder_spec.specs.Seen.{under}
+use Rattle.folder_spec.specs.Seen.{under, ShowsFile}
 use Rattle.folder_spec.specs.Edit.{Edit, edited}
 use Rattle.folder_spec.proofs.Edits.{off_edit}
 use Rattle.folder_spec.proofs.Paths.{begins_or_not, child_begins}
@@ -186,12 +185,12 @@ same_directory f v w at (Some key) stays entered = ap by_folder (sym (stays (f.f
     by_folder x = cond (is_folder x) (Ok (record { folder = f.folder_of at key; key = key })) (Err NoFolder)
 
 -- the content of a file that stands is there, where that of an item is
-pub content_there : (f : Format) → ((long : Bool) (v : View) (rest : Path) → f.item long v ≡ FileItem rest → IsFileAt v rest) → (v : View) (at : Path) (long named : Bool) (item : Item) (file : Path) → f.item long (under at v) ≡ item
-    → standing_of f v at named item ≡ File file → IsFileAt v file
+pub content_there : (f : Format) → ((long : Bool) (v : View) (rest : Path) → f.item long v ≡ FileItem rest → ShowsFile v rest) → (v : View) (at : Path) (long named : Bool) (item : Item) (file : Path) → f.item long (under at v) ≡ item
+    → standing_of f v at named item ≡ File file → ShowsFile v file
 content_there f there v at long named Nothing file is e = cc
 content_there f there v at long false (FileItem rest) file is e = cc
 content_there f there v at long true (FileItem rest) file is e =
-    let same : at ++ rest ≡ file = cc in subst (IsFileAt v) same (there long (under at v) rest is)
+    let same : at ++ rest ≡ file = cc in subst (ShowsFile v) same (there long (under at v) rest is)
 content_there f there v at long false DirectoryItem file is e = cc
 content_there f there v at long true DirectoryItem file is e = cc
 content_there f there v at long named (NoItem finding) file is e = cc
@@ -264,7 +263,7 @@ stands_on f lawful v e path dir name folders entered free leads there spared = b
         ∙ ap (standing_of f (edited v e) (entry_at f dir name) (holds_full f (edited v e) dir (f.stored dir.key name))) as_was.item
         ∙ sym (standing_named f (edited v e) dir name named)
 
-    not_none : {q : Path} → IsFileAt v q → v q ≢ NoEntry
+    not_none : {q : Path} → ShowsFile v q → v q ≢ NoEntry
     not_none file none = let clash : FileOf file.0 ≡ NoEntry = sym file.1 ∙ none in cc
 
     by_name : (b : Bool) → is_name name ≡ b → IsSame v (edited v e) (standing_in f v dir name) (standing_in f (edited v e) dir name)

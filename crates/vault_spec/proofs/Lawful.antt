@@ -1,7 +1,7 @@
 -- What the laws need to know of a format: few facts, which each format proves.
-use Rattle.vault_spec.specs.Findings.{IsFileAt}
 use Rattle.std.proofs.Common.{◌≡◌, ◌≢◌, ◌⊎◌, ℕ, Bool, List, [], ◌∷◌, ◌++◌, Some, IsTrue, is_some, true}
 use Rattle.folder_spec.specs.Path.{Part, Path, child}
+use Rattle.folder_spec.specs.Seen.{ShowsFile}
 use Rattle.folder_spec.specs.View.{Found, View, NoEntry, kind_found, FileOf}
 use Rattle.plain_tree.specs.Names.{is_name}
 use Rattle.vault_spec.specs.Format.{Format, Item, Nothing, FileItem, Expected, key_of}
@@ -34,7 +34,7 @@ pub record IsLawful (f : Format) : Type 0 where
   pub root_by_key : (v w : View) → v (f.key_file ∷ []) ≡ w (f.key_file ∷ []) → f.root_key v ≡ f.root_key w
   -- nothing is no item, and a file's content is there
   pub none : (long : Bool) (v : View) → v [] ≡ NoEntry → f.item long v ≡ Nothing
-  pub content : (long : Bool) (v : View) (rest : Path) → f.item long v ≡ FileItem rest → IsFileAt v rest
+  pub content : (long : Bool) (v : View) (rest : Path) → f.item long v ≡ FileItem rest → ShowsFile v rest
   -- what is stored at one place, an entry or a content, is of one entry
   pub content_entry : (v w : View) (long short : Bool) (one two : Path) (key other : List ℕ) (at place : Path) (a b : Part) → (one ≡ []) ⊎ (f.item long v ≡ FileItem one) → (two ≡ []) ⊎ (f.item short w ≡ FileItem two)
       → child (f.folder_of at key) a ++ one ≡ child (f.folder_of place other) b ++ two → child (f.folder_of at key) a ≡ child (f.folder_of place other) b

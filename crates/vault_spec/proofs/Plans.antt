@@ -1,6 +1,7 @@
 -- A plan is the tree, and what stands is found by going through directories step by step.
 use Rattle.std.proofs.Common.{◌≡◌, ◌≢◌, ◌⊎◌, ◌↔◌, ◌<◌, ℕ, suc, ◌+◌, Bool, true, false, List, [], ◌∷◌, ◌++◌, Ok, refl, sym, ap, ◌∙◌, inl, inr, subst, Some, length, length-append, arith, Contains, is_some}
 use Rattle.folder_spec.specs.Path.{Path, child}
+use Rattle.folder_spec.specs.Seen.{ShowsFile}
 use Rattle.folder_spec.specs.View.{View}
 use Rattle.folder_spec.proofs.Paths.{base_or_child}
 use Rattle.plain_tree.specs.Names as plain
@@ -10,7 +11,6 @@ use Rattle.plain_tree.specs.declared.NodeKind.{NodeKind}
 use Rattle.plain_tree.specs.declared.NodeKind.TheVariants as node
 use Rattle.std.specs.declared.cmp.Ordering.TheVariants.{Less}
 use Rattle.vault_spec.specs.Alike.{place_of}
-use Rattle.vault_spec.specs.Findings.{IsFileAt}
 use Rattle.vault_spec.specs.Format.{Format, Directory, FileItem, file_bytes}
 use Rattle.vault_spec.specs.Listing.{Listed, AreListed, node_of}
 use Rattle.vault_spec.specs.Opens as opens
@@ -27,15 +27,15 @@ use Rattle.vault_spec.proofs.Steps.{along}
 
 -- contents that stand are there
 abbrev pub HasContents : Format → View → Type 0
-HasContents f v = (path : plain.Path) (at : Path) → standing f v path ≡ File at → IsFileAt v at
+HasContents f v = (path : plain.Path) (at : Path) → standing f v path ≡ File at → ShowsFile v at
 
 -- an item opens
-item_opens : (f : Format) (v : View) (s : Standing) (kind : NodeKind) → ((at : Path) → s ≡ File at → IsFileAt v at) → node_of s ≡ Some kind → opened_at f v s ≢ opens.NoItem
+item_opens : (f : Format) (v : View) (s : Standing) (kind : NodeKind) → ((at : Path) → s ≡ File at → ShowsFile v at) → node_of s ≡ Some kind → opened_at f v s ≢ opens.NoItem
 item_opens f v Absent kind has is = cc
 item_opens f v (Strange at) kind has is = cc
 item_opens f v (Dir at d) kind has is = λ e. cc
 item_opens f v (File at) kind has is =
-    let there : IsFileAt v at = has at refl in
+    let there : ShowsFile v at = has at refl in
     λ e. content_opens f.content there.0 (ap (λ x. opened_file f.content (file_bytes x)) (sym there.1) ∙ e)
 
 -- what opens is an item, with its kind and place
@@ -94,7 +94,7 @@ stands_below f v path at some place = by_end (base_or_child path)
         }
 
 -- contents that stand are there, where those of items are
-pub has_contents : (f : Format) (v : View) → ((long : Bool) (v : View) (rest : Path) → f.item long v ≡ FileItem rest → IsFileAt v rest) → HasContents f v
+pub has_contents : (f : Format) (v : View) → ((long : Bool) (v : View) (rest : Path) → f.item long v ≡ FileItem rest → ShowsFile v rest) → HasContents f v
 has_contents f v there path at is = elim (base_or_child path) [
   | inl root ↦ let clash : root_of f v ≡ File at = ap (standing f v) (sym root) ∙ is in cc
   | inr last ↦
@@ -102,7 +102,7 @@ has_contents f v there path at is = elim (base_or_child path) [
       by_name below.dir below.name (is_name below.name) refl (below.stands ∙ is)
 ]
   where
-    by_name : (dir : Directory) (name : List ℕ) (b : Bool) → is_name name ≡ b → standing_in f v dir name ≡ File at → IsFileAt v at
+    by_name : (dir : Directory) (name : List ℕ) (b : Bool) → is_name name ≡ b → standing_in f v dir name ≡ File at → ShowsFile v at
     by_name dir name false named stands = let clash : Absent ≡ File at = sym (standing_unnamed f v dir name named) ∙ stands in cc
     by_name dir name true named stands =
         content_there f there v (entry_at f dir name) (is_some (f.stored dir.key name).full) (holds_full f v dir (f.stored dir.key name)) (item_at f v dir (f.stored dir.key name)) at refl

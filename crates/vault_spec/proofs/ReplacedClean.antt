@@ -2,7 +2,7 @@
 use Rattle.std.proofs.Common.{◌≡◌, ◌≢◌, ℕ, List, Err, Result, refl, sym, ap, ◌∙◌, inl, inr, is_some}
 use Rattle.folder_spec.specs.Path.{Part, Path, child}
 use Rattle.folder_spec.specs.View.{Found, NoEntry, FileOf, View}
-use Rattle.folder_spec.specs.Seen.{under}
+use Rattle.folder_spec.specs.Seen.{under, ShowsFile}
 use Rattle.folder_spec.specs.Edit.{edited, file_edit}
 use Rattle.folder_spec.proofs.Paths.{one_or_not}
 use Rattle.plain_tree.specs.Names as plain
@@ -14,7 +14,7 @@ use Rattle.vault_spec.specs.declared.Finding.TheVariants as is
 use Rattle.vault_spec.specs.Format.{Format, Directory, key_of}
 use Rattle.vault_spec.specs.Standing.{File, entry_at, item_at, standing}
 use Rattle.vault_spec.specs.Reached.{Leads}
-use Rattle.vault_spec.specs.Findings.{IsFileAt, IsEntryOf, Belongs, IsUnnamed, IsDirectoryItem, IsLocked, IsFullTextOf, IsOrphanName, IsTwice, IsFixed, IsOrphanFolder, IsInside, IsExtra, IsClean}
+use Rattle.vault_spec.specs.Findings.{IsEntryOf, Belongs, IsUnnamed, IsDirectoryItem, IsLocked, IsFullTextOf, IsOrphanName, IsTwice, IsFixed, IsOrphanFolder, IsInside, IsExtra, IsClean}
 use Rattle.vault_spec.specs.Findings as findings
 use Rattle.vault_spec.specs.Alike.{IsOrderly}
 use Rattle.vault_spec.proofs.Lawful.{IsLawful}
@@ -30,13 +30,13 @@ by_file f lawful v at old bytes r tells alike q = elim (one_or_not q at) [
   | inr apart ↦ ap tells (replaced_elsewhere f lawful v at old bytes r q apart.0)
 ]
 
-pub file_back : (f : Format) (lawful : IsLawful f) (v : View) (at : Path) (old bytes : List ℕ) → IsReplaced f lawful v at old → (q : Path) → IsFileAt (edited v (file_edit at bytes)) q → IsFileAt v q
+pub file_back : (f : Format) (lawful : IsLawful f) (v : View) (at : Path) (old bytes : List ℕ) → IsReplaced f lawful v at old → (q : Path) → ShowsFile (edited v (file_edit at bytes)) q → ShowsFile v q
 file_back f lawful v at old bytes r q file = elim (one_or_not q at) [
   | inl here ↦ (old, ap v here ∙ r.file)
   | inr apart ↦ (file.0, sym (replaced_elsewhere f lawful v at old bytes r q apart.0) ∙ file.1)
 ]
 
-file_on : (f : Format) (lawful : IsLawful f) (v : View) (at : Path) (old bytes : List ℕ) → IsReplaced f lawful v at old → (q : Path) → IsFileAt v q → IsFileAt (edited v (file_edit at bytes)) q
+file_on : (f : Format) (lawful : IsLawful f) (v : View) (at : Path) (old bytes : List ℕ) → IsReplaced f lawful v at old → (q : Path) → ShowsFile v q → ShowsFile (edited v (file_edit at bytes)) q
 file_on f lawful v at old bytes r q file = elim (one_or_not q at) [
   | inl here ↦ (bytes, ap (edited v (file_edit at bytes)) here ∙ brought_there v (file_edit at bytes))
   | inr apart ↦ (file.0, replaced_elsewhere f lawful v at old bytes r q apart.0 ∙ file.1)

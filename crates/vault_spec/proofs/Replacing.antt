@@ -1,10 +1,9 @@
 -- A file's content that is replaced: just that content changes.
-use Rattle.vault_spec.specs.Findings.{IsFileAt}
 use Rattle.std.proofs.Common.{◌≡◌, ◌≢◌, ◌⊎◌, ℕ, Bool, true, false, List, [], ◌∷◌, ◌++◌, Ok, Err, Result, cond, refl, sym, ap, ◌∙◌, inl, inr, subst, append-nil, append_assoc, Some, None, Option, is_some}
 use Rattle.std.specs.Option.{option_and_then}
 use Rattle.folder_spec.specs.Path.{Part, Path, child}
 use Rattle.folder_spec.specs.View.{Found, NoEntry, Folder, FileOf, Special, View, kind_found}
-use Rattle.folder_spec.specs.Seen.{under}
+use Rattle.folder_spec.specs.Seen.{under, ShowsFile}
 use Rattle.folder_spec.specs.Edit.{edited, file_edit}
 use Rattle.folder_spec.proofs.Edits.{off_edit}
 use Rattle.folder_spec.proofs.Paths.{one_or_not, begins_or_not, base_or_child}
@@ -167,7 +166,7 @@ record IsFileEntry (f : Format) (v : View) (dir : Directory) (name : List ℕ) (
   rest : Path
   is : at ≡ entry_at f dir name ++ rest
   item : item_at f v dir (f.stored dir.key name) ≡ FileItem rest
-  file : IsFileAt v at
+  file : ShowsFile v at
 
 by_item : (f : Format) (v : View) (at : Path) (held : Bool) (item : Item) (place : Path) → standing_of f v at held item ≡ File place → (rest : Path) × (place ≡ at ++ rest) × (item ≡ FileItem rest)
 by_item f v at held Nothing place e = cc

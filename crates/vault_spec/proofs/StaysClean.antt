@@ -2,7 +2,7 @@
 use Rattle.std.proofs.Common.{◌≡◌, ◌≢◌, ◌⊎◌, ℕ, Bool, true, false, List, [], ◌∷◌, ◌++◌, Ok, Err, Result, refl, sym, ap, ◌∙◌, inl, inr, subst, append-nil, Some, None, Option, IsTrue, is_some}
 use Rattle.folder_spec.specs.Path.{Part, Path, child}
 use Rattle.folder_spec.specs.View.{Found, NoEntry, Folder, FileOf, View}
-use Rattle.folder_spec.specs.Seen.{under}
+use Rattle.folder_spec.specs.Seen.{under, ShowsFile}
 use Rattle.folder_spec.specs.Edit.{Edit, edited}
 use Rattle.folder_spec.proofs.Edits.{off_edit}
 use Rattle.folder_spec.proofs.Paths.{begins_or_not, child_begins}
@@ -15,7 +15,7 @@ use Rattle.vault_spec.specs.declared.Finding.TheVariants as is
 use Rattle.vault_spec.specs.Format.{Format, Directory, Item, Nothing, NoItem, Expected, ContentFolder, Extra, file_bytes, key_of}
 use Rattle.vault_spec.specs.Standing.{Dir, root_of, directory_with, entry_at, is_file_of, holds, holds_full, item_at, standing_in}
 use Rattle.vault_spec.specs.Reached.{Leads}
-use Rattle.vault_spec.specs.Findings.{IsFileAt, IsEntryOf, Belongs, IsUnnamed, IsDirectoryItem, IsLocked, IsFullTextOf, IsOrphanName, IsTwice, IsFixed, IsOrphanFolder, IsInside, IsExtra, IsFinding, IsClean}
+use Rattle.vault_spec.specs.Findings.{IsEntryOf, Belongs, IsUnnamed, IsDirectoryItem, IsLocked, IsFullTextOf, IsOrphanName, IsTwice, IsFixed, IsOrphanFolder, IsInside, IsExtra, IsFinding, IsClean}
 use Rattle.vault_spec.specs.Findings as findings
 use Rattle.vault_spec.specs.Alike.{IsNoItem, IsOrderly}
 use Rattle.vault_spec.specs.Adding.{StaysClean, NewItemsStayClean}
@@ -98,7 +98,7 @@ pub folder_stands : (f : Format) (lawful : IsLawful f) (v : View) (path : plain.
 folder_stands f lawful v path dir leads none = let there : v dir.folder ≡ Folder = (reached_right f lawful v path dir leads).there in cc
 
 -- files stay, and with them what belongs and what is an entry of a name
-file_on : (f : Format) (lawful : IsLawful f) (v : View) (e : Edit) → KeepsClean f lawful v e → (q : Path) → IsFileAt v q → IsFileAt (edited v e) q
+file_on : (f : Format) (lawful : IsLawful f) (v : View) (e : Edit) → KeepsClean f lawful v e → (q : Path) → ShowsFile v q → ShowsFile (edited v e) q
 file_on f lawful v e keeps q file = (file.0, stays f lawful v e keeps q (λ none. let clash : FileOf file.0 ≡ NoEntry = sym file.1 ∙ none in cc) ∙ file.1)
 
 belongs_on : (f : Format) (lawful : IsLawful f) (v : View) (e : Edit) → KeepsClean f lawful v e → (dir : Directory) (x : Part) → Belongs f v dir x → Belongs f (edited v e) dir x

@@ -1,10 +1,10 @@
 -- What the law of strays needs to know of a format, beside what makes it lawful.
 use Rattle.std.proofs.Common.{◌≡◌, ◌≢◌, ◌⊎◌, ℕ, Bool, true, false, List, [], ◌∷◌, ◌++◌, IsTrue, is_some}
 use Rattle.folder_spec.specs.Path.{Part, Path, child}
+use Rattle.folder_spec.specs.Seen.{ShowsFile}
 use Rattle.folder_spec.specs.View.{Found, Folder, FileOf, View, kind_found}
 use Rattle.plain_tree.specs.Names.{is_name}
 use Rattle.vault_spec.specs.declared.Finding.{Finding}
-use Rattle.vault_spec.specs.Findings.{IsFileAt}
 use Rattle.vault_spec.specs.Format.{Format, Item, FileItem, NoItem, Expected, ContentFolder, Extra, is_file, key_of}
 use Rattle.vault_spec.proofs.Lawful.{IsLawful}
 
@@ -35,7 +35,7 @@ pub record KnowsStrays (f : Format) (lawful : IsLawful f) : Type 0 where
   pub full_is_full : (key name : List ℕ) (file : Part) → IsTrue (lawful.is_key key) → IsTrue (is_name name) → is_some (f.stored key name).full ≡ true
       → f.full_at (f.stored key name).name ≡ file ∷ [] → f.is_full file ≡ true
   -- a mark that is a file belongs in its entry, and so does a long name's file
-  pub mark_belongs : (long : Bool) (v : View) (m : Part) → v [] ≡ Folder → IsTrue (lawful.marks m) → IsFileAt v (m ∷ []) → f.inner_role long (f.item long v) m (v (m ∷ [])) ≢ Extra
+  pub mark_belongs : (long : Bool) (v : View) (m : Part) → v [] ≡ Folder → IsTrue (lawful.marks m) → ShowsFile v (m ∷ []) → f.inner_role long (f.item long v) m (v (m ∷ [])) ≢ Extra
   pub full_belongs : (item : Item) (a file : Part) (bytes : List ℕ) → f.full_at a ≡ a ∷ file ∷ [] → f.inner_role true item file (FileOf bytes) ≢ Extra
   pub role_in_no_item : (long : Bool) (finding : Finding) (x : Part) (there : Found) → f.inner_role long (NoItem finding) x there ≡ Expected
   -- the root and what is below a folder of entries has no role, and no folder above one is without a place or another's

@@ -6,7 +6,7 @@ use Rattle.chunk_files.specs.Contents.{readable}
 use Rattle.chunk_files.specs.Reading.{Faulty}
 use Rattle.folder_spec.specs.Path.{Part, Path, child}
 use Rattle.folder_spec.specs.View.{NoEntry, FileOf, View}
-use Rattle.folder_spec.specs.Seen.{under}
+use Rattle.folder_spec.specs.Seen.{under, ShowsFile}
 use Rattle.plain_tree.specs.Names.{is_name}
 use Rattle.vault_spec.specs.Format.{Format, Directory, NoItem, Shelf, ContentFolder, Extra, key_of}
 use Rattle.vault_spec.specs.Standing.{File, Dir, root_of, entry_at, holds_full, item_at, standing_in}
@@ -16,10 +16,6 @@ use Rattle.vault_spec.specs.declared.Lack.{Lack}
 use Rattle.vault_spec.specs.declared.Finding.TheVariants as is
 use Rattle.vault_spec.specs.declared.Lack.TheVariants as lacks
 
--- a file stands there
-abbrev pub IsFileAt : View → Path → Type 0
-IsFileAt v at = (bytes : List ℕ) × (v at ≡ FileOf bytes)
-
 -- the entry in a directory's folder is that of this name: it is what is stored of it, and its long-name file has the right text
 pub record IsEntryOf (f : Format) (v : View) (dir : Directory) (entry : Part) (name : List ℕ) : Type 0 where
   pub named : IsTrue (is_name name)
@@ -28,7 +24,7 @@ pub record IsEntryOf (f : Format) (v : View) (dir : Directory) (entry : Part) (n
 
 -- a file that belongs to the folder, or has the name of another entry's long-name file
 pub record Belongs (f : Format) (v : View) (dir : Directory) (entry : Part) : Type 0 where
-  pub file : IsFileAt v (child dir.folder entry)
+  pub file : ShowsFile v (child dir.folder entry)
   pub name : IsTrue (f.is_fixed dir.folder entry || f.is_full entry)
 
 -- 1, 3 and 9: an entry of a reached folder, of no name, that doesn't belong there
@@ -74,7 +70,7 @@ pub record IsOrphanName (f : Format) (v : View) (at : Path) : Type 0 where
   pub file : Part
   pub reached : IsReached f v dir
   pub place : at ≡ child dir.folder file
-  pub there : IsFileAt v at
+  pub there : ShowsFile v at
   pub full : IsTrue (f.is_full file)
   pub wrong : (entry : Part) → ¬ IsFullTextOf f v dir file entry
 
@@ -98,7 +94,7 @@ pub record IsLoose (f : Format) (v : View) (at : Path) : Type 0 where
 
 -- an entry is a file that belongs to a folder of entries
 pub record IsFixed (f : Format) (v : View) (folder : Path) (entry : Part) : Type 0 where
-  pub file : IsFileAt v (child folder entry)
+  pub file : ShowsFile v (child folder entry)
   pub name : IsTrue (f.is_fixed folder entry)
 
 -- 7: a content folder that isn't reached and holds more than the file that belongs there

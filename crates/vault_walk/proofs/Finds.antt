@@ -2,10 +2,11 @@
 use Rattle.std.proofs.Common.{◌≡◌, ◌≢◌, [], Bool, true, false, cond, ◌&&◌, not, inl, inr, refl, sym, ap, ◌∙◌}
 use Rattle.folder_spec.specs.Path.{Part, Path}
 use Rattle.folder_spec.specs.View.{Found, NoEntry, Folder, FileOf, Special, View}
+use Rattle.vault_names.specs.Cryptomator.{is_cm_long_name}
+use Rattle.vault_names.specs.Gocryptfs.{is_long_name}
 use Rattle.vault_spec.specs.Cryptomator.{cm_item_of, content_file, folder_item, has_file, id_file, lost_by, symlink_file}
 use Rattle.vault_spec.specs.Format.{Format, Directory, Item, Nothing, FileItem, DirectoryItem, NoItem, Expected, Extra}
-use Rattle.vault_spec.specs.Gocryptfs.{go_item, has_long_form, is_full_name}
-use Rattle.vault_spec.specs.RootFiles.{has_ending}
+use Rattle.vault_spec.specs.Gocryptfs.{go_item}
 use Rattle.vault_spec.specs.Vault.{Vault, Gocryptfs, Cryptomator, format_of}
 use Rattle.vault_spec.specs.declared.Finding.{Finding}
 use Rattle.vault_spec.specs.declared.Finding.TheVariants as is
@@ -159,7 +160,7 @@ finds_right (Gocryptfs keys) = record {
   absent = λ long v none. ap go_item none;
   present = λ long v e. go_present (v []) e;
   odd = λ long v. go_odd (v []);
-  unnamed = λ entry there. go_unnamed_right (has_long_form entry && not (is_full_name entry));
+  unnamed = λ entry there. go_unnamed_right (is_long_name entry);
   inner_odd = λ long finding entry there e. expected e;
   inner_nothing = λ long entry there e. expected e;
 }
@@ -167,7 +168,7 @@ finds_right (Cryptomator cm) = record {
   absent = λ long v none. ap (cm_item_of long v) none;
   present = λ long v e. cm_present long v (v []) e;
   odd = λ long v. cm_odd long v (v []);
-  unnamed = λ entry there. cm_unnamed_right (has_ending (codes ".c9s") entry) there;
+  unnamed = λ entry there. cm_unnamed_right (is_cm_long_name entry) there;
   inner_odd = λ long finding entry there e. expected e;
   inner_nothing = λ long entry there e. expected e;
 }

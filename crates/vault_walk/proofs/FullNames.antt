@@ -9,7 +9,7 @@ use Rattle.folder_spec.specs.Path.{Part}
 use Rattle.folder_spec.specs.View.{View}
 use Rattle.vault_spec.specs.Findings.{IsFullTextOf}
 use Rattle.vault_spec.specs.Format.{Directory}
-use Rattle.vault_spec.specs.Gocryptfs.{full_name, has_long_form}
+use Rattle.vault_spec.specs.Gocryptfs.{full_name}
 use Rattle.vault_spec.specs.RootFiles.{has_ending}
 use Rattle.vault_spec.specs.Vault.{Vault, Gocryptfs, Cryptomator, format_of}
 use Rattle.vault_read.specs.Opened.{kind_of}
@@ -24,7 +24,7 @@ stripped n s None cases ends = let clash : false ≡ true = ends_text false n s 
 
 pub entry_stripped : (vault : VaultKind) (s : List ℕ) (r : Option (Bor (List ℕ)))
     → MatchOption r (FindsTextSuffix (codes ".name") s None) (λ x. StripsSuffix (FindsTextSuffix (codes ".name")) s x.now) → vault ≡ kind.Gocryptfs → is_full_by vault s ≡ true → is_some r ≡ is_full_by vault s
-entry_stripped kind.Gocryptfs s r cases e full = stripped (codes ".name") s r cases (and_parts (has_long_form s) (has_ending (codes ".name") s) full).1 ∙ sym full
+entry_stripped kind.Gocryptfs s r cases e full = stripped (codes ".name") s r cases (and_parts _ (has_ending (codes ".name") s) full).1 ∙ sym full
 entry_stripped kind.Cryptomator s r cases e full = cc
 
 -- a long-name file has one entry

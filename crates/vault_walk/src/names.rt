@@ -7,12 +7,13 @@ ghost use Rattle.vault_names.specs.Base32.{is_base32};
 ghost use Rattle.vault_spec.specs.Cryptomator.{cm_role, cm_unnamed, file_role, folder_role, inner_role, is_base32_text, is_configuration, top};
 ghost use Rattle.vault_spec.specs.Findings.{number_of};
 ghost use Rattle.vault_spec.specs.RootFiles.{is_root_file};
-ghost use Rattle.vault_spec.specs.Gocryptfs.{full_name, has_long_form};
+ghost use Rattle.vault_spec.specs.Gocryptfs.{full_name};
 ghost use Rattle.vault_read.specs.Items.{item_of};
 ghost use Rattle.vault_read.specs.declared.vault.VaultKind.TheVariants.{Gocryptfs};
 ghost use Rattle.vault_walk.specs.Names.{is_fixed_by, is_full_by, role_of, unnamed_by};
 
 use folder_model::{FPath, Kind};
+use vault_names::{cm_is_long, go_is_long};
 use vault_read::{EntryItem, VaultKind};
 use vault_spec::Finding;
 
@@ -81,16 +82,10 @@ pub(crate) fn is_full(kind: VaultKind, name: &str) -> bool
     ensures { result ≡ is_full_by kind name.now }
 {
     match kind {
-        VaultKind::Gocryptfs => is_long_form(name)
+        VaultKind::Gocryptfs => name.as_bytes().starts_with(LONG_START.as_bytes())
             && name.as_bytes().ends_with(FULL_END.as_bytes()),
         VaultKind::Cryptomator => false,
     }
-}
-
-fn is_long_form(name: &str) -> bool
-    ensures { result ≡ has_long_form name.now }
-{
-    name.as_bytes().starts_with(LONG_START.as_bytes())
 }
 
 // The entry whose long-name file has this name, if it is that of one.
@@ -116,7 +111,7 @@ pub(crate) fn unnamed(vault: VaultKind, name: &str, kind: Kind) -> Finding
 {
     match vault {
         VaultKind::Gocryptfs => {
-            if is_long_form(name) && !name.as_bytes().ends_with(FULL_END.as_bytes()) {
+            if go_is_long(name) {
                 Finding::LongNameLost
             } else {
                 Finding::BadStoredName
@@ -129,7 +124,7 @@ pub(crate) fn unnamed(vault: VaultKind, name: &str, kind: Kind) -> Finding
 fn cm_unnamed(name: &str, kind: Kind) -> Finding
     ensures { (there : Found) → kind ≡ kind_found there → result ≡ cm_unnamed name.now there }
 {
-    if !name.as_bytes().ends_with(b".c9s") {
+    if !cm_is_long(name) {
         return Finding::BadStoredName;
     }
     match kind {

@@ -8,7 +8,7 @@ ghost use Rattle.folder_spec.specs.Path.{Path};
 ghost use Rattle.folder_spec.specs.Seen.{IfSeen, IsSeen, under, ShowsFile};
 ghost use Rattle.folder_spec.specs.View.{View};
 ghost use Rattle.plain_tree.specs.declared.NodeKind.TheVariants as node;
-ghost use Rattle.vault_read.specs.Laws.{HasOwnFolders};
+ghost use Rattle.vault_read.specs.OwnFolders.{HasOwnFolders};
 ghost use Rattle.vault_faults.specs.declared.fault.Limit.TheVariants.{Depth, Items};
 ghost use Rattle.vault_spec.specs.Findings.{IsClean};
 ghost use Rattle.vault_spec.specs.Plan.{Planned};

@@ -14,7 +14,7 @@ returns-clause-holds g c seed a told stands =
     let root : vault.root ≡ _ = c.in_ok-load.ensures.root ∙ c.in_ok-at.ensures.is in
     holds_new c.roots_have_one_answer.ensures vault kind.Gocryptfs seed a.state
     (subst (λ r. IsVault (under r (seen a.state)) phrase vault.vault) (sym c.in_ok-load.ensures.root)
-    (c.in_ok-load.ensures.vault (seen a.state) (subst (λ t. IsSeen t (seen a.state)) (sym told ∙ c.load.ensures.told) refl)))
+    (c.in_ok-load.ensures.vault (seen a.state) (subst (λ t. IsSeen t (seen a.state)) (sym told ∙ c.load.ensures.looks.told) refl)))
     (subst (λ r. StandsNew kind.Gocryptfs r a.state) (sym root) stands)
 
 pub returns-clause-kind : goal.returns-clause-kind
@@ -23,7 +23,7 @@ returns-clause-kind g c a told stands =
     let root : vault.root ≡ _ = c.in_ok-load.ensures.root ∙ c.in_ok-at.ensures.is in
     new_kind c.roots_have_one_answer.ensures kind.Gocryptfs vault.root vault.vault a.state
     (subst (λ r. IsVault (under r (seen a.state)) phrase vault.vault) (sym c.in_ok-load.ensures.root)
-    (c.in_ok-load.ensures.vault (seen a.state) (subst (λ t. IsSeen t (seen a.state)) (sym told ∙ c.load.ensures.told) refl)))
+    (c.in_ok-load.ensures.vault (seen a.state) (subst (λ t. IsSeen t (seen a.state)) (sym told ∙ c.load.ensures.looks.told) refl)))
     (subst (λ r. StandsNew kind.Gocryptfs r a.state) (sym root) stands)
 
 pub returns-in_err-load-clause-chance : goal.returns-in_err-load-clause-chance
@@ -35,4 +35,4 @@ returns-in_err-load-clause-chance g c =
     let new : StandsNew kind.Gocryptfs root a.state = subst (λ r. StandsNew kind.Gocryptfs r a.state) (sym c.in_ok-at.ensures.is) stands in
     load_chance c.roots_have_one_answer.ensures (under root (seen a.state)) phrase new.vault
     (subst (λ u. IsVault u phrase new.vault) (sym (seen_alone root a.state new.view new.alone)) new.new.opens) root why
-    (c.in_err-load.ensures.fault (seen a.state) (subst (λ t. IsSeen t (seen a.state)) (sym told ∙ c.load.ensures.told) refl)))
+    (c.in_err-load.ensures.fault (seen a.state) (subst (λ t. IsSeen t (seen a.state)) (sym told ∙ c.load.ensures.looks.told) refl)))

@@ -40,8 +40,8 @@ returns-in-Same g c =
     let m = c.in_ok-holds_all.field-0 in
     let held : Match → Answer (Unit {0}) → Type 0 = λ m. Then own (TestsHeld m) (λ _. Passed) in
     record {
-      told = c.in_ok-holds_all.ensures.told;
-      grows = c.in_ok-holds_all.ensures.grows;
+      told = c.in_ok-holds_all.ensures.looks.told;
+      grows = c.in_ok-holds_all.ensures.looks.blames.grows;
       tested = tt;
       limit = tt;
       blamed = tt;

@@ -41,7 +41,7 @@ pub returns-in-Ok-cat-clause-writes : goal.returns-in-Ok-cat-clause-writes
 returns-in-Ok-cat-clause-writes g c left ended random =
     let reads = cat_reads c.roots_have_one_answer.ensures c.what_is_found_stands.ensures.file c.args.target.now c.in-Ok.vault.root c.in-Ok.vault.vault (Ok c.in-Ok-cat.field-0)
     (g.F.Folder.told c.args.folder.now) (g.F.Folder.told c.open.new.folder) (g.F.Folder.told c.cat.new.folder) (g.O.Sink.taken c.args.out.now) (g.O.Sink.taken c.cat.new.out)
-    c.in-Ok.ensures.root c.in-Ok.ensures.told c.in-Ok-cat.ensures.told c.in-Ok.ensures.opened c.in-Ok-cat.ensures.cats in
+    c.in-Ok.ensures.root c.in-Ok.ensures.told c.in-Ok-cat.ensures.looks.told c.in-Ok.ensures.opened c.in-Ok-cat.ensures.cats in
     record {
       reads = reads;
       complete = written_or_cut c.roots_have_one_answer.ensures _ _ _ _ _ _ reads;
@@ -56,7 +56,7 @@ returns-clause-writes g c left ended random =
     (sym c.answer_to_cat.ensures)
     (cat_reads c.roots_have_one_answer.ensures c.what_is_found_stands.ensures.file c.args.target.now c.in-Ok.vault.root c.in-Ok.vault.vault (Err c.in-Err-cat.fault)
     (g.F.Folder.told c.args.folder.now) (g.F.Folder.told c.open.new.folder) (g.F.Folder.told c.cat.new.folder) (g.O.Sink.taken c.args.out.now) (g.O.Sink.taken c.cat.new.out)
-    c.in-Ok.ensures.root c.in-Ok.ensures.told c.in-Err-cat.ensures.told c.in-Ok.ensures.opened c.in-Err-cat.ensures.cats) in
+    c.in-Ok.ensures.root c.in-Ok.ensures.told c.in-Err-cat.ensures.looks.told c.in-Ok.ensures.opened c.in-Err-cat.ensures.cats) in
     record {
       reads = reads;
       complete = written_or_cut c.roots_have_one_answer.ensures _ _ _ _ _ _ reads;
@@ -70,7 +70,7 @@ returns-clause-writes g c left ended random =
 pub returns-clause-folder_fault : goal.returns-clause-folder_fault
 returns-clause-folder_fault g c = λ is. elim (cat_fails c.in-Err-cat.fault (sym c.answer_to_cat.ensures ∙ is)) [
   | inl failed ↦ rose_after (g.F.Folder.faults c.args.folder.now) (g.F.Folder.faults c.open.new.folder) (g.F.Folder.faults c.cat.new.folder)
-      c.in-Ok.ensures.grows (c.in-Err-cat.ensures.failed (ap Err failed))
+      c.in-Ok.ensures.grows (c.in-Err-cat.ensures.looks.blames.rose (ap Err failed))
   | inr found ↦ absurd (subst IsCatFault found c.in-Err-cat.ensures.fault)
 ]
 

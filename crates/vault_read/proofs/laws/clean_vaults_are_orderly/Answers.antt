@@ -5,7 +5,7 @@ use Rattle.vault_spec.specs.Cryptomator.{cm_format}
 use Rattle.vault_spec.specs.Findings.{IsClean}
 use Rattle.vault_spec.specs.Gocryptfs.{go_format}
 use Rattle.vault_spec.specs.Vault.{Vault, Gocryptfs, Cryptomator, format_of}
-use Rattle.vault_read.specs.Laws.{HasOwnFolders}
+use Rattle.vault_read.specs.OwnFolders.{HasOwnFolders}
 use Rattle.vault_read.proofs.OrderlyVaults.{root_there}
 use Rattle.vault_read.proofs.laws.clean_vaults_are_orderly.Goals as goal
 

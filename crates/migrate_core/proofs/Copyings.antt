@@ -5,7 +5,7 @@ use Rattle.std.proofs.lemmas.List.Elements.{Contains-append_left, Contains-appen
 use Rattle.item_making.specs.Ending.{Ending, Whole}
 use Rattle.content_writing.specs.Content.{Coming}
 use Rattle.vault_faults.specs.Limits.{content_limit}
-use Rattle.vault_contents.specs.Coming.{coming_read}
+use Rattle.vault_write.specs.ContentsComing.{coming_read}
 use Rattle.item_making.specs.declared.fault.PutFault.TheVariants.{Taken}
 use Rattle.folder_spec.proofs.Paths.{base_or_child, one_or_not}
 use Rattle.folder_spec.specs.Event.{Told}

@@ -16,8 +16,8 @@ use Rattle.plain_tree.specs.declared.name_map.NameMap.{NameMap}
 use Rattle.port_model.specs.Draws.{ByteStream}
 use Rattle.item_making.specs.Ending.{Ending, Whole}
 use Rattle.content_writing.specs.Content.{Coming, still_coming}
-use Rattle.vault_contents.specs.VaultContents.{path_of, coming_of}
-use Rattle.vault_contents.specs.declared.vault_content.VaultContent.{VaultContent}
+use Rattle.vault_write.specs.VaultContents.{path_of, coming_of}
+use Rattle.vault_write.specs.declared.vault_content.VaultContent.{VaultContent}
 use Rattle.item_making.specs.declared.fault.PutFault.{PutFault}
 use Rattle.item_making.specs.declared.fault.PutFault.TheVariants.{NoMemory, Taken}
 use Rattle.migration_spec.proofs.Kept.{behind_none}

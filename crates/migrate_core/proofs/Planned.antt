@@ -7,9 +7,9 @@ use Rattle.chunk_files.specs.Reading as reading
 use Rattle.item_making.specs.Ending.{Ending, Whole}
 use Rattle.content_writing.specs.Content.{Coming, IsReady, IsTold, still_coming}
 use Rattle.vault_faults.specs.Limits.{content_limit}
-use Rattle.vault_contents.specs.Coming.{coming_read, ending_of, held_before}
-use Rattle.vault_contents.specs.VaultContents.{path_of, coming_of}
-use Rattle.vault_contents.specs.declared.vault_content.VaultContent.{VaultContent}
+use Rattle.vault_write.specs.ContentsComing.{coming_read, ending_of, held_before}
+use Rattle.vault_write.specs.VaultContents.{path_of, coming_of}
+use Rattle.vault_write.specs.declared.vault_content.VaultContent.{VaultContent}
 use Rattle.folder_spec.specs.Path.{Path, below}
 use Rattle.folder_spec.specs.Event.{Told}
 use Rattle.folder_spec.specs.Seen.{IfSeen, IsSeen, seen, under, ShowsFile}

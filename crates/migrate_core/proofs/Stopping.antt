@@ -4,7 +4,7 @@ use Rattle.chunk_files.specs.Reading as reading
 use Rattle.chunk_files.specs.declared.fault.ChunkFault.{ChunkFault}
 use Rattle.item_making.specs.Ending.{Ending, Damaged, TooLong}
 use Rattle.content_writing.specs.Content.{Coming}
-use Rattle.vault_contents.specs.Coming.{ending_of}
+use Rattle.vault_write.specs.ContentsComing.{ending_of}
 use Rattle.item_making.specs.declared.fault.PutFault.{PutFault}
 use Rattle.item_making.specs.declared.fault.PutFault.TheVariants as put
 use Rattle.folder_spec.proofs.Paths.{base_or_child}

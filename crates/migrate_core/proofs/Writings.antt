@@ -14,7 +14,7 @@ use Rattle.folder_spec.specs.Path.{Path}
 use Rattle.folder_spec.specs.Region.{Spares, SparesOld, apart_from}
 use Rattle.folder_spec.specs.Written.{HoldFronts}
 use Rattle.folder_spec.specs.declared.FolderFault.{FolderFault}
-use Rattle.vault_contents.specs.Coming.{ending_of}
+use Rattle.vault_write.specs.ContentsComing.{ending_of}
 use Rattle.item_making.specs.declared.fault.PutFault.{PutFault}
 use Rattle.item_making.specs.declared.fault.PutFault.TheVariants as put
 use Rattle.vault_write.specs.Refusing.{Answers}

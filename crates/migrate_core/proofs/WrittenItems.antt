@@ -13,7 +13,7 @@ use Rattle.folder_spec.specs.Path.{Path}
 use Rattle.item_making.specs.Ending.{Ending, Whole}
 use Rattle.content_writing.specs.Content.{Coming}
 use Rattle.vault_faults.specs.Limits.{content_limit}
-use Rattle.vault_contents.specs.Coming.{coming_read, ending_of, held_before}
+use Rattle.vault_write.specs.ContentsComing.{coming_read, ending_of, held_before}
 use Rattle.item_making.specs.declared.fault.PutFault.{PutFault}
 use Rattle.item_making.specs.declared.fault.PutFault.TheVariants as put
 use Rattle.vault_write.specs.Refusing.{Answers, HasTaken}

@@ -26,7 +26,7 @@ use Rattle.vault_spec.specs.Vault.{Vault, IsVault, format_of}
 use Rattle.item_making.specs.Making.{IsPlace, Placing}
 use Rattle.vault_write.specs.Refusing.{Answers, TakesRoot}
 use Rattle.item_making.specs.Ending.{Ending, Whole}
-use Rattle.vault_contents.specs.Coming.{ending_of}
+use Rattle.vault_write.specs.ContentsComing.{ending_of}
 use Rattle.item_making.specs.declared.fault.PutFault.{PutFault}
 use Rattle.item_making.specs.declared.fault.PutFault.TheVariants as put
 use Rattle.migrate_core.specs.declared.fault.MoveFault.{MoveFault}

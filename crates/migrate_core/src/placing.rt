@@ -10,8 +10,8 @@ ghost use Rattle.vault_spec.specs.Vault.{format_of};
 ghost use Rattle.vault_walk.specs.Survey.{IsOrdered};
 ghost use Rattle.vault_faults.specs.Limits.{content_limit};
 ghost use Rattle.item_making.specs.Making.{is_apart};
-ghost use Rattle.vault_contents.specs.Coming.{coming_read};
-ghost use Rattle.vault_contents.specs.VaultContents.{coming_of, path_of};
+ghost use Rattle.vault_write.specs.ContentsComing.{coming_read};
+ghost use Rattle.vault_write.specs.VaultContents.{coming_of, path_of};
 ghost use Rattle.vault_write.specs.Calls.{IsKept};
 ghost use Rattle.work_folder.specs.Entering.{IsReady};
 ghost use Rattle.migrate_core.specs.Causes.{IsStop, StopsSeen, nothing_stops};
@@ -38,13 +38,12 @@ use port_model::Randoms;
 use port_model::laws::draws_compose;
 use std::alloc::{AllocError, Global};
 use tree_match::laws::{mapped_walks_tell_the_mapped_tree, walks_tell_the_tree};
-use vault_contents::VaultContent;
-use vault_contents::laws::files_fit_as_contents;
 use vault_read::laws::{files_have_their_contents, items_keep_vaults};
 use vault_read::{ContentReader, Vault};
 use vault_spec::laws::{what_is_found_stands, what_stands_is_found_step_by_step};
 use vault_walk::{Plan, PlanItem, plan_digest};
-use vault_write::{Kept, place_dir_keeping, place_file_keeping};
+use vault_write::laws::files_fit_as_contents;
+use vault_write::{Kept, VaultContent, place_dir_keeping, place_file_keeping};
 use work_folder::Work;
 
 /// What a migration has done: how many items it placed, and how many the target has.

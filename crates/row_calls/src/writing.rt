@@ -10,10 +10,10 @@ use kdf_suite::ScryptCost;
 use plain_tree::PlainPath;
 use row_playing::{Handed, Stage, Stop};
 use row_words::cut;
-use vault_contents::VaultContent;
 use vault_read::{ContentReader, Vault};
 use vault_write::{
-    PutFault, SourceContent, init_cm, init_cm_combo, init_go, place_dir, place_file, put,
+    PutFault, SourceContent, VaultContent, init_cm, init_cm_combo, init_go, place_dir, place_file,
+    put,
 };
 use work_folder::Work;
 

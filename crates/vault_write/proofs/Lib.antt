@@ -27,3 +27,5 @@ mod Replacing
 mod ReplacedMade
 mod PutMade
 mod Keeping
+mod ContentLengths
+mod Refills

@@ -7,3 +7,6 @@ pub mod Slots
 pub mod Filing
 pub mod Showing
 pub mod Founding
+pub mod ContentsComing
+pub mod HeldChunks
+pub mod VaultContents

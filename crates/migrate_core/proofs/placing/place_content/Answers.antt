@@ -2,7 +2,7 @@ use Rattle.std.proofs.Common.{IsTrue, Err, Ok, arith, refl, sym, ap, subst, [], 
 use Rattle.std.specs.List.{list_all}
 use Rattle.chunk_files.specs.Decoding.{started}
 use Rattle.content_writing.specs.Content.{still_coming}
-use Rattle.vault_contents.specs.VaultContents.{path_of, coming_of}
+use Rattle.vault_write.specs.VaultContents.{path_of, coming_of}
 use Rattle.migration_spec.specs.Alone.{Begun}
 use Rattle.plain_tree.specs.Names.{is_name}
 use Rattle.vault_spec.specs.Making.{NewFile}

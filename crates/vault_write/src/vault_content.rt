@@ -4,7 +4,7 @@ ghost use Rattle.chunk_files.specs.Decoding.{started};
 ghost use Rattle.folder_spec.specs.View.{Found};
 ghost use Rattle.vault_spec.specs.Vault.{format_of};
 ghost use Rattle.vault_faults.specs.Limits.{content_limit};
-ghost use Rattle.vault_contents.specs.Coming.{coming_read, held_in};
+ghost use Rattle.vault_write.specs.ContentsComing.{coming_read, held_in};
 
 use crate::held::Held;
 use chunk_files::ChunkBuf;
@@ -27,7 +27,7 @@ pub struct VaultContent {
 }
 
 impl VaultContent {
-    ghost use Rattle.vault_contents.specs.VaultContents.{path_of, coming_of};
+    ghost use Rattle.vault_write.specs.VaultContents.{path_of, coming_of};
 
     /// The content that a reader still gives. It takes no memory; its buffer is taken by the first piece.
     pub fn new(alloc: Global, reader: ContentReader) -> VaultContent
@@ -73,8 +73,7 @@ impl VaultContent {
 }
 
 impl<F: Folder> Content<F> for VaultContent {
-    ghost use Rattle.vault_contents.specs.Laws.{vault_contents_fit};
-    ghost use Rattle.vault_contents.specs.VaultContents.{path_of, coming_of};
+    ghost use Rattle.vault_write.specs.VaultContents.{path_of, coming_of, vault_contents_fit};
 
     ghost reads = { λ c. path_of c };
 

@@ -5,10 +5,10 @@ use Rattle.folder_spec.specs.View.{Found, FileOf, View}
 use Rattle.folder_spec.specs.Seen.{IsSeen}
 use Rattle.vault_read.specs.Contents.{Reader, Suits, still}
 use Rattle.content_writing.specs.Content.{Gives, IsTold}
-use Rattle.vault_contents.specs.Coming.{coming_read, held_before, held_in}
-use Rattle.vault_contents.specs.Refilling.{Refills}
-use Rattle.vault_contents.proofs.Refills.{GivesPiece, told_suits, read_suits, gives_told, piece_given, piece_failed}
-use Rattle.vault_contents.proofs.vault_content.VaultContentContent.piece.Goals as goal
+use Rattle.vault_write.specs.ContentsComing.{coming_read, held_before, held_in}
+use Rattle.vault_write.specs.HeldChunks.{Refills}
+use Rattle.vault_write.proofs.Refills.{GivesPiece, told_suits, read_suits, gives_told, piece_given, piece_failed}
+use Rattle.vault_write.proofs.vault_content.VaultContentContent.piece.Goals as goal
 
 pub refill-filled-requires : goal.refill-filled-requires
 refill-filled-requires g c = λ v seen.

@@ -4,8 +4,8 @@ ghost use Rattle.port_model.specs.Counts.{CountRose};
 ghost use Rattle.folder_spec.specs.View.{FileOf};
 ghost use Rattle.folder_spec.specs.Seen.{IfSeen};
 ghost use Rattle.vault_read.specs.Contents.{IsBeingRead, still};
-ghost use Rattle.vault_contents.specs.Coming.{held_before};
-ghost use Rattle.vault_contents.specs.Refilling.{Refills, IsReadingFault};
+ghost use Rattle.vault_write.specs.ContentsComing.{held_before};
+ghost use Rattle.vault_write.specs.HeldChunks.{Refills, IsReadingFault};
 
 use chunk_files::ChunkBuf;
 use content_writing::PutFault;

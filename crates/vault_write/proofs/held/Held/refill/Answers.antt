@@ -2,11 +2,11 @@ use Rattle.std.proofs.Common.{◌≡◌, ◌≤◌, ◌-◌, ℕ, List, [], leng
 use Rattle.std.proofs.lemmas.List.{length-take-le, length-drop}
 use Rattle.std.proofs.lemmas.Result.{err_from_is_err_and}
 use Rattle.vault_read.specs.Contents.{still}
-use Rattle.vault_contents.specs.Coming.{held_before}
+use Rattle.vault_write.specs.ContentsComing.{held_before}
 use Rattle.item_making.specs.Faults.{of_cat}
-use Rattle.vault_contents.specs.Refilling.{Refills}
-use Rattle.vault_contents.proofs.Refills.{refilled, unfilled}
-use Rattle.vault_contents.proofs.held.Held.refill.Goals as goal
+use Rattle.vault_write.specs.HeldChunks.{Refills}
+use Rattle.vault_write.proofs.Refills.{refilled, unfilled}
+use Rattle.vault_write.proofs.held.Held.refill.Goals as goal
 
 held_size : (start end : ℕ) (chunk : List ℕ) → end ≤ length chunk → length (take (end - start) (drop start chunk)) ≡ end - start
 held_size start end chunk within = length-take-le (end - start) (drop start chunk) (omega (arith, length-drop start chunk, within))

@@ -12,7 +12,7 @@ use Rattle.folder_spec.specs.Path.{Path}
 use Rattle.folder_spec.specs.View.{FileOf}
 use Rattle.vault_read.specs.Contents.{limited_reading}
 use Rattle.vault_faults.specs.Limits.{content_limit}
-use Rattle.vault_contents.specs.Coming.{coming_read, held_before}
+use Rattle.vault_write.specs.ContentsComing.{coming_read, held_before}
 
 readings_fit : ReadingsAreNoLonger → (keys : Keys) (bytes : List ℕ) → length (concat (limited_reading keys bytes).chunks) ≤ content_limit
 readings_fit law keys bytes =

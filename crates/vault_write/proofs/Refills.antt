@@ -17,9 +17,9 @@ use Rattle.vault_read.specs.Contents.{Reader, Suits, Passes, Stops, IsBeingRead,
 use Rattle.vault_read.specs.Contents as read
 use Rattle.item_making.specs.Ending.{Whole, Damaged, TooLong}
 use Rattle.content_writing.specs.Content.{Coming, ends, bytes_before, IsTold, Steps, Gives}
-use Rattle.vault_contents.specs.Coming.{ending_of, held_before, suits, fitting, coming_read}
+use Rattle.vault_write.specs.ContentsComing.{ending_of, held_before, suits, fitting, coming_read}
 use Rattle.item_making.specs.Faults.{of_cat}
-use Rattle.vault_contents.specs.Refilling.{Refills}
+use Rattle.vault_write.specs.HeldChunks.{Refills}
 use Rattle.item_making.specs.declared.fault.PutFault.{PutFault}
 use Rattle.item_making.specs.declared.fault.PutFault.TheVariants as puts
 

@@ -1,7 +1,7 @@
 use Rattle.std.proofs.Common.{◌≡◌, ◌≤◌, ◌+◌, ◌-◌, ℕ, List, take, drop, sym, ap, ◌∙◌, arith}
 use Rattle.std.proofs.Math.Nat.{min-le_right}
 use Rattle.std.proofs.lemmas.List.{drop-take, drop-drop}
-use Rattle.vault_contents.proofs.held.Held.give.Goals as goal
+use Rattle.vault_write.proofs.held.Held.give.Goals as goal
 
 shifted : (start count end : ℕ) (xs : List ℕ) → count ≤ end - start → take (end - (start + count)) (drop (start + count) xs) ≡ drop count (take (end - start) (drop start xs))
 shifted start count end xs within =

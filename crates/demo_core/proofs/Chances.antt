@@ -18,7 +18,7 @@ use Rattle.vault_read.specs.Laws.{HaveOneAnswer}
 use Rattle.vault_read.specs.Loading as loading
 use Rattle.vault_read.specs.declared.fault.LoadFault.{LoadFault}
 use Rattle.vault_read.specs.declared.fault.LoadFault.TheVariants as load
-use Rattle.vault_spec.specs.Vault.{Answer, IsVault, Loads, Vault}
+use Rattle.vault_spec.specs.Vault.{Loaded, IsVault, Loads, Vault}
 use Rattle.vault_write.specs.Founding.{CmDrew, GoDrew}
 use Rattle.item_making.specs.Making.{is_apart, is_inside, is_unstaged}
 use Rattle.work_folder.specs.Entering.{Empties, EntersAs, IsFresh, IsReady}
@@ -53,13 +53,13 @@ not_foreign v w fresh name foreign = by (bytes_eq name (codes "stage")) refl
         let never : IsTrue false = subst (λ x. IsTrue (is_foreign false name (kind_found x))) none foreign in
         cc never
 
-entries_pass : (v : View) (w : Path) (answer : looking.Answer) → IsFresh v w → TestsEntries false v w answer → answer ≡ Ok tt
+entries_pass : (v : View) (w : Path) (answer : looking.Looked) → IsFresh v w → TestsEntries false v w answer → answer ≡ Ok tt
 entries_pass v w answer fresh tests = elim tests [
   | inl none ↦ none.1
   | inr some ↦ absurd (not_foreign v w fresh some.0 some.1.foreign)
 ]
 
-pass : (v : View) (w : Path) (answer : looking.Answer) → CanEnter v w → Tests v w answer → answer ≡ Ok tt
+pass : (v : View) (w : Path) (answer : looking.Looked) → CanEnter v w → Tests v w answer → answer ≡ Ok tt
 pass v w answer can tests = elim can.1 [
   | inl none ↦ subst (λ x. TestsKind x v w answer) none (subst (λ x. TestsParent x v w answer) can.0 tests)
   | inr fresh ↦ entries_pass v w answer fresh
@@ -74,7 +74,7 @@ bare v w above can rest some = elim can.1 [
   | inr fresh ↦ fresh.ready.bare rest some
 ]
 
-enters : (v : View) (w : Path) → ((q rest : Path) → v q ≡ NoEntry → v (q ++ rest) ≡ NoEntry) → CanEnter v w → (answer : looking.Answer) → EntersAs v w answer → Empties v w answer
+enters : (v : View) (w : Path) → ((q rest : Path) → v q ≡ NoEntry → v (q ++ rest) ≡ NoEntry) → CanEnter v w → (answer : looking.Looked) → EntersAs v w answer → Empties v w answer
 enters v w above can answer entered = elim entered [
   | inl fails ↦ absurd (fails.1 (pass v w answer can fails.0))
   | inr passes ↦ passes.1
@@ -162,10 +162,10 @@ cm_chance draw drawn (Err put.Failed) drew = tt
 cm_chance draw drawn (Err put.NoMemory) drew = tt
 
 module _ (one : HaveOneAnswer) (v : View) (pass : List ℕ) (vault : Vault) (opens : IsVault v pass vault) where
-  never : (E : Answer) → E ≢ Ok vault → ¬ Loads v pass E
+  never : (E : Loaded) → E ≢ Ok vault → ¬ Loads v pass E
   never answer other loads = other (one v pass answer (Ok vault) loads opens)
 
-  pub load_chance : (root : Path) (fault : LoadFault) → loading.Refuses root (Loads v pass) fault → IsOfChance (Load fault)
+  pub load_chance : (root : Path) (fault : LoadFault) → loading.RefusesLoading root (Loads v pass) fault → IsOfChance (Load fault)
   load_chance root (load.Missing at) refuses = absurd (never _ (λ e. cc e) refuses.2)
   load_chance root (load.WrongKind at) refuses = absurd (never _ (λ e. cc e) refuses.2)
   load_chance root (load.TooLarge at) refuses = absurd (never _ (λ e. cc e) refuses.2)

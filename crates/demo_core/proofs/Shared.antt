@@ -12,7 +12,7 @@ use Rattle.folder_spec.specs.View.{View}
 use Rattle.plain_tree.specs.Names as plain
 use Rattle.plain_tree.specs.Names.{is_name}
 use Rattle.port_model.specs.Draws.{ByteStream, Draws}
-use Rattle.vault_spec.specs.Alike.{IsNoItem}
+use Rattle.vault_spec.specs.Alike.{HasNoItem}
 use Rattle.vault_spec.specs.Find.{enter}
 use Rattle.vault_spec.specs.Findings.{IsClean}
 use Rattle.vault_spec.specs.Format.{Directory, Format, file_bytes}
@@ -42,7 +42,7 @@ named true number = is_name-directory (number / 10)
 named false number = is_name-file number
 
 -- where nothing opens no item stands
-no_item : (f : Format) (v : View) (s : Standing) → ((at : folder.Path) → s ≡ File at → ShowsFile v at) → opened_at f v s ≡ NoItem → IsNoItem s
+no_item : (f : Format) (v : View) (s : Standing) → ((at : folder.Path) → s ≡ File at → ShowsFile v at) → opened_at f v s ≡ NoItem → HasNoItem s
 no_item f v Absent has none = tt
 no_item f v (Strange at) has none = tt
 no_item f v (File at) has none =
@@ -62,10 +62,10 @@ module _ (behind : StandBehind) (entered : EnteredLeads) (shows : HaveContents) 
       ends (a ∷ front) e = cc e
 
   next_free : HasItems seed number (tree (format_of vault) v) → (dir : Directory) → Leads (format_of vault) v (item_front (is_directory number) number) dir
-      → IsNoItem (standing_in (format_of vault) v dir (item_name (is_directory number) number))
+      → HasNoItem (standing_in (format_of vault) v dir (item_name (is_directory number) number))
   unfolding opened
   next_free has dir leads =
-      subst IsNoItem (ap (standing (format_of vault) v) (path_ends number) ∙ behind (format_of vault) v (item_front (is_directory number) number) dir (item_name (is_directory number) number) leads)
+      subst HasNoItem (ap (standing (format_of vault) v) (path_ends number) ∙ behind (format_of vault) v (item_front (is_directory number) number) dir (item_name (is_directory number) number) leads)
       (no_item (format_of vault) v (standing (format_of vault) v (path_of number)) (shows vault v (path_of number)) (next_opens has))
 
   pub lacks_place_at : IsVault v phrase vault → IsClean (format_of vault) v → IsTidy (format_of vault) v → HasItems seed number (tree (format_of vault) v) → (item : NewItem) → (item ≡ NewDirectory → IsTrue (is_directory number)) → (drawn : List ℕ) (dir : Directory)

@@ -25,7 +25,7 @@ use Rattle.vault_spec.specs.Alike.{HasFolders}
 use Rattle.vault_spec.specs.Empty.{IsEmptyVault}
 use Rattle.vault_spec.specs.Opens.{NoItem, tree}
 use Rattle.vault_spec.specs.Tidy.{IsTidy}
-use Rattle.vault_spec.specs.Vault.{Answer, IsVault, Vault, format_of}
+use Rattle.vault_spec.specs.Vault.{Loaded, IsVault, Vault, format_of}
 use Rattle.vault_write.specs.Founding.{IsNewVault, vault_edit}
 use Rattle.item_making.specs.Making.{is_inside, is_staged, is_unstaged}
 use Rattle.work_folder.specs.Entries.{stage_path}
@@ -140,7 +140,7 @@ stands_by kind work at made vault t u (Ok done) one other sound sound_then free 
 
 -- ---- it is opened
 
-abbrev opened_as : Vault → Answer
+abbrev opened_as : Vault → Loaded
 opened_as vault = Ok vault
 
 one_vault : (a b : Vault) → opened_as a ≡ opened_as b → a ≡ b

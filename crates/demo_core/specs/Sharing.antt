@@ -7,7 +7,7 @@ use Rattle.folder_spec.specs.Seen.{seen, under}
 use Rattle.folder_spec.specs.View.{View}
 use Rattle.plain_tree.specs.Names as plain
 use Rattle.port_model.specs.Draws.{ByteStream, Draws}
-use Rattle.vault_spec.specs.Alike.{IsNoItem}
+use Rattle.vault_spec.specs.Alike.{HasNoItem}
 use Rattle.vault_spec.specs.Find.{enter}
 use Rattle.vault_spec.specs.Findings.{IsClean}
 use Rattle.vault_spec.specs.Format.{Directory}
@@ -30,7 +30,7 @@ pub record LacksOwnPlace (number : ℕ) (view : View) (drawn : List ℕ) : Type 
   pub path : path_of number ≡ front ++ name ∷ []
   pub dir : Directory
   pub entered : enter (format_of vault) view front ≡ Ok dir
-  pub free : IsNoItem (standing_in (format_of vault) view dir name)
+  pub free : HasNoItem (standing_in (format_of vault) view dir name)
   pub item : NewItem
   pub directory : item ≡ NewDirectory → IsTrue (is_directory number)
   pub shared : ¬ HasOwnPlace (format_of vault) view dir name item drawn

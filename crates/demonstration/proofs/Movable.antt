@@ -26,7 +26,7 @@ use Rattle.retire_core.specs.Completing.{CanRetire, KeepsLimits}
 use Rattle.tree_match.specs.Comparing.{content_at}
 use Rattle.vault_spec.specs.PlanOf.{IsPlanOf}
 use Rattle.vault_spec.specs.Mapped.{AllowsMapped, AllowsTree, IsWhole, StaysApart}
-use Rattle.tree_match.specs.Trees.{IsWalkOf, Side}
+use Rattle.tree_match.specs.Trees.{IsWalkOf, PlannedVault}
 use Rattle.vault_spec.specs.Opened.{OpenedVault}
 use Rattle.vault_spec.specs.Alike.{IsOrderly}
 use Rattle.vault_spec.specs.Format.{Format}
@@ -162,7 +162,7 @@ can_begin laws leg seed count s sound few can = record {
 -- ---- and retired
 
 abbrev pub PlansTell : Type 0
-PlansTell = (v : View) (a : Side) → IsWalkOf v a → IsPlanOf (tree (format_of a.vault) (under a.root v)) a.items
+PlansTell = (v : View) (a : PlannedVault) → IsWalkOf v a → IsPlanOf (tree (format_of a.vault) (under a.root v)) a.items
 
 whole_if_small : (opens : Opened) → IsSmall opens → IsWhole opens
 whole_if_small NoItem small = tt

@@ -18,7 +18,7 @@ use Rattle.plain_tree.specs.declared.name_map.NameMap.TheVariants.{Same}
 use Rattle.port_model.specs.Draws.{ByteStream}
 use Rattle.vault_spec.specs.PlanOf.{IsPlanOf, node_of}
 use Rattle.tree_match.specs.Mapping.{IsMappedPlan}
-use Rattle.tree_match.specs.Trees.{IsWalkOf, Side}
+use Rattle.tree_match.specs.Trees.{IsWalkOf, PlannedVault}
 use Rattle.vault_read.specs.Laws.{HaveOneAnswer}
 use Rattle.vault_read.specs.OwnFolders.{HasOwnFolders}
 use Rattle.vault_spec.specs.Making.{NewItem, NewDirectory, NewFile}
@@ -36,7 +36,7 @@ use Rattle.demonstration.proofs.Movable.{PlansTell}
 
 -- by the rule that names stay, the mapped plan of a walk is that plan
 abbrev pub WalksStay : Type 0
-WalksStay = (v : View) (a : Side) (mapped : List Planned) → IsWalkOf v a → IsMappedPlan Same a.items mapped → mapped ≡ a.items
+WalksStay = (v : View) (a : PlannedVault) (mapped : List Planned) → IsWalkOf v a → IsMappedPlan Same a.items mapped → mapped ≡ a.items
 
 -- an item that the plan has opens, and as a directory where it is one
 some_opens : (o : Opened) (kind : NodeKind) → node_of o ≡ Some kind → o ≢ NoItem
@@ -82,7 +82,7 @@ module _ (one : HaveOneAnswer) (plans : PlansTell) (walks : WalksStay) (leg : Le
       shares : moving.SharesPlace (opened_in (target_of leg) target) x.shares.item x.shares.drawn x.shares.moment
       shares = x.shares.shares
 
-      side : Side
+      side : PlannedVault
       side = record { vault = source; root = source_of leg; items = x.items_are.own }
 
       items_tree : Tree

@@ -5,7 +5,7 @@ use Rattle.kdf_suite.specs.ScryptCost.{IsCost}
 use Rattle.gocrypt_conf.specs.declared.fault.GoConfFault.{GoConfFault}
 use Rattle.gocrypt_conf.specs.declared.fault.GoConfFault.TheVariants as fault
 use Rattle.gocrypt_conf.specs.Fields.{Fields}
-use Rattle.gocrypt_conf.specs.Tests.{Answer, Checks, first_outside, known_flags, wrong_flag, NoWrongFlag, cost_of}
+use Rattle.gocrypt_conf.specs.Tests.{ReadConf, Checks, first_outside, known_flags, wrong_flag, NoWrongFlag, cost_of}
 
 -- a fault that was made, or memory was refused
 pub named : (made named_fault : GoConfFault) (f : Fields) → (made ≡ fault.NoMemory) ⊎ (made ≡ named_fault) → Checks f (Err named_fault)
@@ -14,7 +14,7 @@ named made named_fault f (inl none) checks = inl none
 named made named_fault f (inr is) checks = inr (subst (λ g. Checks f (Err g)) (sym is) checks)
 
 -- what follows where no flag is wrong
-passed : (found : _) (answer : Answer) (next : Type 0) → found ≡ None → next → NoWrongFlag found answer next
+passed : (found : _) (answer : ReadConf) (next : Type 0) → found ≡ None → next → NoWrongFlag found answer next
 passed found answer next none then = subst (λ f. NoWrongFlag f answer next) (sym none) then
 
 -- the answer where a flag is wrong

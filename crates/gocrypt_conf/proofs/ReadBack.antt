@@ -27,7 +27,7 @@ use Rattle.gocrypt_conf.specs.declared.conf.GoConf.{GoConf}
 use Rattle.gocrypt_conf.specs.declared.fault.GoConfFault.{GoConfFault}
 use Rattle.json_fields.specs.Json.{json_object}
 use Rattle.gocrypt_conf.specs.Fields.{Fields, fields_of, fields_in}
-use Rattle.gocrypt_conf.specs.Tests.{Answer, Checks, ReadsAs}
+use Rattle.gocrypt_conf.specs.Tests.{ReadConf, Checks, ReadsAs}
 use Rattle.gocrypt_conf.specs.Text.{text_with, conf_text, made_conf}
 use Rattle.gocrypt_conf.specs.Keys.{unlocking_key}
 use Rattle.gocrypt_conf.specs.MasterKey.{sealed_key}
@@ -120,7 +120,7 @@ cost_fits cost is =
     }
 
 -- an answer, from the fields
-reads_on : (bytes : List ℕ) (fields : Fields) (answer : Answer) → fields_in bytes ≡ Ok fields → Checks fields answer → ReadsAs bytes answer
+reads_on : (bytes : List ℕ) (fields : Fields) (answer : ReadConf) → fields_in bytes ≡ Ok fields → Checks fields answer → ReadsAs bytes answer
 reads_on bytes fields answer found checks =
     let P : Result Fields GoConfFault → Type 0 = λ r. MatchResult r (λ f. Checks f answer) (λ fault. answer ≡ Err fault) in
     subst P (sym found) checks

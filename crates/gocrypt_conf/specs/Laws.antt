@@ -7,12 +7,12 @@ use Rattle.gocrypt_conf.specs.declared.conf.GoDraw.{GoDraw}
 use Rattle.vault_values.specs.declared.keys.GoKeys.{GoKeys}
 use Rattle.gocrypt_conf.specs.Keys.{keys_of}
 use Rattle.gocrypt_conf.specs.MasterKey.{Unlocks}
-use Rattle.gocrypt_conf.specs.Tests.{Answer, ReadsAs}
+use Rattle.gocrypt_conf.specs.Tests.{ReadConf, ReadsAs}
 use Rattle.gocrypt_conf.specs.Text.{conf_text, made_conf, Reseals}
 
 -- bytes have one answer at most
 abbrev pub HaveOneAnswer : Type 0
-HaveOneAnswer = (bytes : List ℕ) (a b : Answer) → ReadsAs bytes a → ReadsAs bytes b → a ≡ b
+HaveOneAnswer = (bytes : List ℕ) (a b : ReadConf) → ReadsAs bytes a → ReadsAs bytes b → a ≡ b
 
 -- a passphrase unlocks one pair of keys at most
 abbrev pub UnlocksOnePair : Type 0

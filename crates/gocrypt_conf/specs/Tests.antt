@@ -9,8 +9,8 @@ use Rattle.gocrypt_conf.specs.declared.fault.GoConfFault.{GoConfFault}
 use Rattle.gocrypt_conf.specs.declared.fault.GoConfFault.TheVariants as fault
 use Rattle.gocrypt_conf.specs.Fields.{Fields, fields_in}
 
-abbrev pub Answer : Type 0
-Answer = Result GoConf GoConfFault
+abbrev pub ReadConf : Type 0
+ReadConf = Result GoConf GoConfFault
 
 -- the flags that must all be there, and no others
 abbrev pub known_flags : List (List ℕ)
@@ -26,11 +26,11 @@ abbrev pub wrong_flag : List (List ℕ) → Option (List ℕ)
 wrong_flag flags = option_or (first_outside known_flags flags) (first_outside flags known_flags)
 
 -- what follows where the fact holds, and else the answer is the fault
-abbrev pub Must : Type 0 → GoConfFault → Answer → Type 0 → Type 0
+abbrev pub Must : Type 0 → GoConfFault → ReadConf → Type 0 → Type 0
 Must fact fault answer next = (fact × next) ⊎ (¬ fact × (answer ≡ Err fault))
 
 -- what follows where no flag is refused, and else the answer is that flag
-abbrev pub NoWrongFlag : Option (List ℕ) → Answer → Type 0 → Type 0
+abbrev pub NoWrongFlag : Option (List ℕ) → ReadConf → Type 0 → Type 0
 NoWrongFlag None answer next = next
 NoWrongFlag (Some flag) answer next = answer ≡ Err (fault.Flag flag)
 
@@ -38,7 +38,7 @@ abbrev pub cost_of : Fields → Cost
 cost_of fields = record { n = fields.scrypt.n; r = fields.scrypt.r; p = fields.scrypt.p }
 
 -- the tests of the fields, in order: the version, the flags, the cost, the lengths
-unfoldable pub Checks : Fields → Answer → Type 0
+unfoldable pub Checks : Fields → ReadConf → Type 0
 Checks fields answer =
     Must (fields.version ≡ 2) (fault.Version fields.version) answer
     (NoWrongFlag (wrong_flag fields.flags) answer
@@ -48,6 +48,6 @@ Checks fields answer =
     (answer ≡ Ok (record { salt = fields.scrypt.salt; cost = cost_of fields; sealed = fields.sealed }))))))
 
 -- the answer to the bytes of a file
-abbrev pub ReadsAs : List ℕ → Answer → Type 0
+abbrev pub ReadsAs : List ℕ → ReadConf → Type 0
 ReadsAs bytes answer =
     MatchResult (fields_in bytes) (λ fields. Checks fields answer) (λ fault. answer ≡ Err fault)

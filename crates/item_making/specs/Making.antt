@@ -98,9 +98,9 @@ abbrev pub IsPlace : List Edit → Path → Type 0
 IsPlace edits q = (e : Edit) × Contains edits e × (e.at ≡ q)
 
 -- what is staged comes to a free place; or a file onto the file that it replaces
-abbrev pub MayCome : Bool → State → Path → Path → Type 0
-MayCome false s staged at = IsFree (present s) at
-MayCome true s staged at = HasFile (present s) staged × HasFile (present s) at
+abbrev pub HasPlace : Bool → State → Path → Path → Type 0
+HasPlace false s staged at = IsFree (present s) at
+HasPlace true s staged at = HasFile (present s) staged × HasFile (present s) at
 
 -- The call works below the stage, or makes a directory at the place of an edit, or brings there what was staged. It writes no file but
 -- those that are staged, and takes nothing away from the vault but a file that is replaced.
@@ -110,6 +110,6 @@ StagesOrPlaces work m s (Create at) = IsTrue (is_staged work at)
 StagesOrPlaces work m s (Append at piece) = IsTrue (is_staged work at)
 StagesOrPlaces work m s (Sync at) = IsTrue (is_staged work at)
 StagesOrPlaces work m s Settle = Unit {0}
-StagesOrPlaces work m s (Rename staged at) = IsTrue (is_staged work staged) × IsPlace m.edits at × MayCome m.replaces s staged at
+StagesOrPlaces work m s (Rename staged at) = IsTrue (is_staged work staged) × IsPlace m.edits at × HasPlace m.replaces s staged at
 StagesOrPlaces work m s (RemoveFile at) = IsTrue (is_staged work at)
 StagesOrPlaces work m s (RemoveDir at) = IsTrue (is_staged work at)

@@ -19,7 +19,7 @@ use Rattle.vault_spec.specs.Vault.{format_of}
 use Rattle.vault_walk.specs.declared.plan.Plan.{Plan}
 use Rattle.work_folder.specs.Looking as work
 use Rattle.migrate_core.specs.Causes.{Answer, ForbidsMappedLast, IsOfMoving, IsStop, Moves, Refuses, StopsAt, StopsMatch, TestsHeld, TestsItems, TestsMapped, TestsMatch, TestsNames, TestsTold, Unless, nothing_stops}
-use Rattle.migrate_core.specs.Copying.{HaveOwnFolders}
+use Rattle.migrate_core.specs.Copying.{BothHaveOwnFolders}
 use Rattle.migrate_core.specs.Faults.{of_map, of_match, of_put, of_work}
 use Rattle.migrate_core.specs.Sides.{AllowsEachMapped, AllowsMappedLast}
 use Rattle.item_making.specs.declared.fault.PutFault.{PutFault}
@@ -35,10 +35,10 @@ pub moving : {Y : Type 0} (Is : Type 0) (P : PutFault → Type 0) (answer : Answ
 moving Is P (Ok value) is = inr (inr tt)
 moving Is P (Err fault) is = inr (inr is)
 
-pub moves_pass : {Y : Type 0} (A : work.Answer → Type 0) (from to : OpenedVault) (v : View) (items : List Planned) (answer : Answer Y) → A (Ok tt)
-    → IfErr answer (IsStop (HaveOwnFolders from to v) (StopsAt (HaveOwnFolders from to v) from v items)) → Unless answer (Moves A from to v items answer)
+pub moves_pass : {Y : Type 0} (A : work.Looked → Type 0) (from to : OpenedVault) (v : View) (items : List Planned) (answer : Answer Y) → A (Ok tt)
+    → IfErr answer (IsStop (BothHaveOwnFolders from to v) (StopsAt (BothHaveOwnFolders from to v) from v items)) → Unless answer (Moves A from to v items answer)
 moves_pass A from to v items answer ready is =
-    let Own : Type 0 = HaveOwnFolders from to v in
+    let Own : Type 0 = BothHaveOwnFolders from to v in
     then_passes Failed NoMemory of_work A (λ _. IsOfMoving Own (StopsAt Own from v items)) answer tt ready (moving Own (StopsAt Own from v items) answer is)
 
 match_more_stops : (Is More : Type 0) (why : MatchFault) → (More → Is) → StopsMatch Is why → StopsMatch More why

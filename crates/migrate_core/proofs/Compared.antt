@@ -16,8 +16,8 @@ use Rattle.plain_tree.specs.Names as plain
 use Rattle.plain_tree.specs.declared.name_map.NameMap.{NameMap}
 use Rattle.tree_match.specs.Comparing.{Answers, Outcome, Stops}
 use Rattle.vault_spec.specs.PlanOf.{IsPlanOf}
-use Rattle.vault_spec.specs.Mapped.{IsHeldIn, IsPartOf, IsWhole}
-use Rattle.tree_match.specs.Trees.{AreSame, IsMappedWalkOf, IsSameOrTooLong, IsTooLong, IsWalkOf, Side, match_of, side_of, side_with, tree_of}
+use Rattle.vault_spec.specs.Mapped.{IsHeldIn, IsPartOfMapped, IsWhole}
+use Rattle.tree_match.specs.Trees.{AreSame, IsMappedWalkOf, IsSameOrTooLong, IsTooLong, IsWalkOf, PlannedVault, match_of, side_of, with_items, tree_of}
 use Rattle.tree_match.specs.declared.answer.Match.{Match}
 use Rattle.tree_match.specs.declared.answer.MatchFault.{MatchFault}
 use Rattle.tree_match.specs.declared.answer.MatchFault.TheVariants as match
@@ -94,15 +94,15 @@ match_stops outcome match.NoMemory is = tt
 -- ---- once all is copied
 
 abbrev pub OneTreeMatches : Type 0
-OneTreeMatches = (v : View) (names : NameMap) (a b : Side) → IsMappedWalkOf names v a → IsWalkOf v b → IsHeldIn names (tree_of v a) (tree_of v b) → IsPartOf names (tree_of v b) (tree_of v a) → IsSameOrTooLong (match_of v a b)
+OneTreeMatches = (v : View) (names : NameMap) (a b : PlannedVault) → IsMappedWalkOf names v a → IsWalkOf v b → IsHeldIn names (tree_of v a) (tree_of v b) → IsPartOfMapped names (tree_of v b) (tree_of v a) → IsSameOrTooLong (match_of v a b)
 
 -- an item of a tree is in its plan
 pub planned_at : (t : Tree) (items : List Planned) → IsPlanOf t items → (path : plain.Path) → path ≢ [] → t path ≢ NoItem → (x : Planned) × Contains items x × (x.path ≡ path)
 planned_at t items plan path named there = mapped_from (λ (x : Planned). x.path) items path ((plan.items.items path).1 (named, there))
 
 -- a walk at mapped paths tells the tree from which its items come
-pub tells_mapped : TellsTree → MappedStayApart → (v : View) (rule : NameMap) (a : Side) → IsMappedWalkOf rule v a → TellsMapped rule (tree_of v a) a.items
-tells_mapped tells apart v rule a walk = record { own = walk.own; plan = tells v (side_with a walk.own) walk.walk; mapped = walk.mapped; apart = apart v rule a walk }
+pub tells_mapped : TellsTree → MappedStayApart → (v : View) (rule : NameMap) (a : PlannedVault) → IsMappedWalkOf rule v a → TellsMapped rule (tree_of v a) a.items
+tells_mapped tells apart v rule a walk = record { own = walk.own; plan = tells v (with_items a walk.own) walk.walk; mapped = walk.mapped; apart = apart v rule a walk }
 
 pub source_tells : TellsTree → MappedStayApart → (rule : NameMap) (from : OpenedVault) (items : List Planned) (t : Option Told) (v : View) → IsMappedWalk rule t from items → IsSeen t v → IsOrderly (format_of from.vault) (under from.root v)
     → TellsMapped rule (tree_at from v) items

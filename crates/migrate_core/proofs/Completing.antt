@@ -15,7 +15,7 @@ use Rattle.item_making.specs.Making.{is_inside}
 use Rattle.migrate_core.proofs.Writings.{in_second}
 use Rattle.migrate_core.specs.Causes.{Answer, Begins, BeginsApart, BeginsWith, EndsSo, ForbidsMappedLast, IsOfMoving, IsStop, Moves, StopsAt, StopsMatch, TestsEmpty, TestsMapped, TestsNames, Unless}
 use Rattle.migrate_core.specs.Completing.{CanBegin, IsIntact, IsOfChance}
-use Rattle.migrate_core.specs.Copying.{HaveOwnFolders}
+use Rattle.migrate_core.specs.Copying.{BothHaveOwnFolders}
 use Rattle.migrate_core.specs.Faults.{Blamed, IsMoveFault, of_folder, of_map, of_step, of_work}
 use Rattle.migrate_core.specs.Sides.{AllowsMappedLast, IsAsked}
 use Rattle.migrate_core.specs.declared.fault.MoveFault.{MoveFault}
@@ -65,7 +65,7 @@ Only = OnlyBy IsOfChance
 -- ---- the folders
 
 -- its stage is emptied
-pub staged_met : (v : View) (work : Path) → IsWork false (kinds_in v) work → IsShallow (stage_path work) v → (t : looking.Answer) → Empties v work t → MatchResult t Any (λ why. IsOfChance (of_work why))
+pub staged_met : (v : View) (work : Path) → IsWork false (kinds_in v) work → IsShallow (stage_path work) v → (t : looking.Looked) → Empties v work t → MatchResult t Any (λ why. IsOfChance (of_work why))
 staged_met v work is shallow (Ok done) empties = tt
 staged_met v work is shallow (Err (works.NoParent p)) empties = absurd empties
 staged_met v work is shallow (Err (works.WrongKind p)) empties = absurd empties
@@ -93,7 +93,7 @@ module _ (v : View) (work : Path) (above : v (parent work) ≡ Folder) (is : IsW
     | inr there ↦ not_dir (sym same ∙ there.0)
   ]
 
-  tests_pass : (t : looking.Answer) → Tests v work t → t ≡ Ok tt
+  tests_pass : (t : looking.Looked) → Tests v work t → t ≡ Ok tt
   tests_pass t tests = by_kind (v work) refl (subst (λ x. TestsParent x v work t) above tests)
     where
       by_kind : (x : Found) → v work ≡ x → TestsKind x v work t → t ≡ Ok tt
@@ -105,17 +105,17 @@ module _ (v : View) (work : Path) (above : v (parent work) ≡ Folder) (is : IsW
       by_kind (FileOf bytes) e tested = absurd (nothing_else kind.File (ap kind_found e) (λ c. cc c) (λ c. cc c))
       by_kind Special e tested = absurd (nothing_else kind.Other (ap kind_found e) (λ c. cc c) (λ c. cc c))
 
-  looks_met : (t : looking.Answer) → Tests v work t → MatchResult t Any (λ why. IsOfChance (of_work why))
-  looks_met t tests = subst (λ (x : looking.Answer). MatchResult x Any (λ why. IsOfChance (of_work why))) (sym (tests_pass t tests)) tt
+  looks_met : (t : looking.Looked) → Tests v work t → MatchResult t Any (λ why. IsOfChance (of_work why))
+  looks_met t tests = subst (λ (x : looking.Looked). MatchResult x Any (λ why. IsOfChance (of_work why))) (sym (tests_pass t tests)) tt
 
-  enters_met : IsShallow (stage_path work) v → (t : looking.Answer) → EntersAs v work t → MatchResult t Any (λ why. IsOfChance (of_work why))
+  enters_met : IsShallow (stage_path work) v → (t : looking.Looked) → EntersAs v work t → MatchResult t Any (λ why. IsOfChance (of_work why))
   enters_met shallow t (inl refused) = absurd (refused.1 (tests_pass t refused.0))
   enters_met shallow t (inr emptied) = staged_met v work is shallow t emptied.1
 
 -- ---- the items
 
 -- no two directories of either vault share a folder where both are in good order
-pub own_both : (from to : OpenedVault) (v : View) → IsOrderly (format_of from.vault) (under from.root v) → IsOrderly (format_of to.vault) (under to.root v) → HaveOwnFolders from to v
+pub own_both : (from to : OpenedVault) (v : View) → IsOrderly (format_of from.vault) (under from.root v) → IsOrderly (format_of to.vault) (under to.root v) → BothHaveOwnFolders from to v
 own_both from to v orderly orderly_too = record { source = own_folders from.vault (under from.root v) orderly; target = own_folders to.vault (under to.root v) orderly_too }
 
 -- a tree of the root alone has no items
@@ -167,10 +167,10 @@ pub mapped_whole : (rule : NameMap) (a : OpenedVault) (v : View) → IsIntact a 
     → (content_at (format_of a.vault).content v x.at).ending ≡ reading.Whole
 mapped_whole rule a v intact items mapped walk same = each_mapped_file (λ ending. ending ≡ reading.Whole) a v intact.contents items walk rule mapped same
 
-module _ (from to : OpenedVault) (v : View) (items : List Planned) (folders : HaveOwnFolders from to v)
+module _ (from to : OpenedVault) (v : View) (items : List Planned) (folders : BothHaveOwnFolders from to v)
     (whole : (x : Planned) → Contains items x → x.node ≡ File → (content_at (format_of from.vault).content v x.at).ending ≡ reading.Whole) where
   abbrev Given : Type 0
-  Given = HaveOwnFolders from to v
+  Given = BothHaveOwnFolders from to v
 
   none_ends : (at : Path) (ending : reading.Ending) → reading.Whole ≢ ending → EndsSo from v items at ending → ⊥
   none_ends at ending other ends = other (sym (whole ends.item ends.among ends.file) ∙ ends.ends)
@@ -228,7 +228,7 @@ pub record AreCited : Type 0 where
   pub meet : NoneMeet
 
 module _ (laws : AreCited) (g : Migration) (v : View) (from_pass to_pass : List ℕ) (opened : AreOpenedBy g from_pass to_pass v) (can : CanBegin g v) where
-  folders_own : HaveOwnFolders g.source g.target v
+  folders_own : BothHaveOwnFolders g.source g.target v
   folders_own = own_both g.source g.target v can.begun.source.there.good.orderly can.begun.target.good.orderly
 
   module _ {Y : Type 0} (answer : Answer Y) (may : IfErr answer IsMoveFault) where
@@ -237,7 +237,7 @@ module _ (laws : AreCited) (g : Migration) (v : View) (from_pass to_pass : List 
 
     moves_met : (items mapped : List Planned) → IsWalkOf v (side_of g.source items) → IsMappedPlan g.names items mapped → moved mapped answer → Only Any answer
     moves_met items mapped walk same =
-        met IsOfChance of_work (EntersAs v g.work) (λ _. IsOfMoving (HaveOwnFolders g.source g.target v) (StopsAt (HaveOwnFolders g.source g.target v) g.source v mapped)) Any Any answer
+        met IsOfChance of_work (EntersAs v g.work) (λ _. IsOfMoving (BothHaveOwnFolders g.source g.target v) (StopsAt (BothHaveOwnFolders g.source g.target v) g.source v mapped)) Any Any answer
         (enters_met v g.work can.above can.work can.begun.journal can.stage)
         (λ _ _. moving_met g.source g.target v mapped folders_own (mapped_whole g.names g.source v can.source items mapped walk same) answer may)
 

@@ -10,7 +10,7 @@ use Rattle.folder_spec.specs.View.{Folder, NoEntry, View}
 use Rattle.migrate_core.proofs.Completing.{Only, own_both, mapped_met, mapped_whole, moving_met, staged_met}
 use Rattle.migrate_core.specs.Causes.{Answer, IsGone, IsOfMoving, Moves, Resumes, ResumesTold, ResumesWith, StopsAt, TestsHeld, TestsItems, TestsMapped, TestsMatch, TestsSource, TestsTold, Unless, is_done, where_in}
 use Rattle.migrate_core.specs.Completing.{CanResume, IsOfChance, IsToResume}
-use Rattle.migrate_core.specs.Copying.{HaveOwnFolders}
+use Rattle.migrate_core.specs.Copying.{BothHaveOwnFolders}
 use Rattle.migrate_core.specs.Faults.{IsMoveFault, of_journal, of_match, of_step, of_work}
 use Rattle.migrate_core.specs.Sides.{AreTold}
 use Rattle.migrate_core.specs.declared.fault.MoveFault.TheVariants.{Changed, Differ, SourceGone, Failed, NoMemory}
@@ -33,10 +33,10 @@ use Rattle.migration_spec.specs.Guard as guard
 use Rattle.migration_spec.specs.Guard.{AreOpenedBy, Case, HasJournal, HoldsSource, IsThere, IsWork, Migration, kinds_in, tree_at}
 use Rattle.vault_spec.proofs.MappedHeld as mapped
 use Rattle.vault_spec.specs.PlanOf.{IsPlanOf, node_of}
-use Rattle.vault_spec.specs.Mapped.{AllowsTree, IsPartOf, StaysApart}
+use Rattle.vault_spec.specs.Mapped.{AllowsTree, IsPartOfMapped, StaysApart}
 use Rattle.plain_tree.specs.declared.name_map.NameMap.{NameMap}
 use Rattle.tree_match.specs.Mapping.{IsMappedPlan}
-use Rattle.tree_match.specs.Trees.{Compares, HoldsAllOrTooLong, IsMappedWalkOf, IsWalkOf, Side, match_of, side_of, tree_of}
+use Rattle.tree_match.specs.Trees.{Compares, HoldsAllOrTooLong, IsMappedWalkOf, IsWalkOf, PlannedVault, match_of, side_of, tree_of}
 use Rattle.tree_match.proofs.InOrder.{same_lists, not_twice}
 use Rattle.vault_read.specs.Laws.{HaveOneAnswer}
 use Rattle.vault_spec.specs.Alike.{HasFolders}
@@ -93,12 +93,12 @@ record GoesOn (g : Migration) (ph : Phase) (v : View) : Type 0 where
   journal : HasJournal g ph v
   target : IsThere g.target v
   apart : StaysApart g.names g.held
-  part : IsPartOf g.names (tree_at g.target v) g.held
+  part : IsPartOfMapped g.names (tree_at g.target v) g.held
   allowed : AllowsTree g.names (format_of g.target.vault) g.held
 
 -- what is part of a mapped vault is held, where they are compared
 abbrev pub PartIsHeld : Type 0
-PartIsHeld = (v : View) (rule : NameMap) (a b : Side) → IsWalkOf v a → IsMappedWalkOf rule v b → IsPartOf rule (tree_of v a) (tree_of v b) → HoldsAllOrTooLong (match_of v a b)
+PartIsHeld = (v : View) (rule : NameMap) (a b : PlannedVault) → IsWalkOf v a → IsMappedWalkOf rule v b → IsPartOfMapped rule (tree_of v a) (tree_of v b) → HoldsAllOrTooLong (match_of v a b)
 
 pub record AreCited : Type 0 where
   pub reads : ReadsBack
@@ -115,7 +115,7 @@ module _ (laws : AreCited) (g : Migration) (v : View) (from_pass to_pass : List 
   stands : v (journal_path g.work) ≢ NoEntry
   stands = not_missing g.work journal v goes.journal.stands
 
-  folders_own : HaveOwnFolders g.source g.target v
+  folders_own : BothHaveOwnFolders g.source g.target v
   folders_own = own_both g.source g.target v goes.source.there.good.orderly goes.target.good.orderly
 
   source_there : v g.source.root ≢ NoEntry
@@ -136,8 +136,8 @@ module _ (laws : AreCited) (g : Migration) (v : View) (from_pass to_pass : List 
       let told = goes.journal.tells in
       (told.digest ∙ one_digest g.held told.plan items told.is_plan held, told.items ∙ one_count g.held told.plan items told.is_plan held)
 
-  part_in : IsPartOf g.names (tree_at g.target v) (tree_at g.source v)
-  part_in = subst (λ (t : Tree). IsPartOf g.names (tree_at g.target v) t) (sym (fun_ext goes.source.held)) goes.part
+  part_in : IsPartOfMapped g.names (tree_at g.target v) (tree_at g.source v)
+  part_in = subst (λ (t : Tree). IsPartOfMapped g.names (tree_at g.target v) t) (sym (fun_ext goes.source.held)) goes.part
 
   module _ {Y : Type 0} (answer : Answer Y) (may : IfErr answer IsMoveFault) where
     abbrev moved : List Planned → Answer Y → Type 0
@@ -145,7 +145,7 @@ module _ (laws : AreCited) (g : Migration) (v : View) (from_pass to_pass : List 
 
     moves_met : (items mapped : List Planned) → IsWalkOf v (side_of g.source items) → IsMappedPlan g.names items mapped → moved mapped answer → Only Any answer
     moves_met items mapped walk same =
-        met IsOfChance of_work (Empties v g.work) (λ _. IsOfMoving (HaveOwnFolders g.source g.target v) (StopsAt (HaveOwnFolders g.source g.target v) g.source v mapped)) Any Any answer
+        met IsOfChance of_work (Empties v g.work) (λ _. IsOfMoving (BothHaveOwnFolders g.source g.target v) (StopsAt (BothHaveOwnFolders g.source g.target v) g.source v mapped)) Any Any answer
         (staged_met v g.work work_is can.stage) (λ _ _. moving_met g.source g.target v mapped folders_own (mapped_whole g.names g.source v can.source items mapped walk same) answer may)
 
     match_then : (items mapped there : List Planned) → IsWalkOf v (side_of g.source items) → IsMappedPlan g.names items mapped → IsWalkOf v (side_of g.target there)

@@ -17,7 +17,7 @@ use Rattle.plain_tree.specs.declared.name_map.NameMap.{NameMap}
 use Rattle.port_model.specs.Draws.{ByteStream}
 use Rattle.folder_spec.specs.Apart.{AreSeparate}
 use Rattle.migration_spec.proofs.Placing.{part_gains}
-use Rattle.vault_spec.specs.Mapped.{IsMappedItem, IsPartOf}
+use Rattle.vault_spec.specs.Mapped.{IsMappedItem, IsPartOfMapped}
 use Rattle.tree_match.specs.Trees.{side_of}
 use Rattle.vault_spec.specs.Opened.{OpenedVault}
 use Rattle.vault_spec.specs.Adding.{OpensWith}
@@ -48,7 +48,7 @@ copying_as rule from to v w same_from same_to k = record {
   source = record { clean = subst (IsClean (format_of from.vault)) (sym same_from) k.source.clean; orderly = subst (IsOrderly (format_of from.vault)) (sym same_from) k.source.orderly };
   within = subst (IsWithin (format_of from.vault)) (sym same_from) k.within;
   target = record { clean = subst (IsClean (format_of to.vault)) (sym same_to) k.target.clean; orderly = subst (IsOrderly (format_of to.vault)) (sym same_to) k.target.orderly };
-  part = subst₂ (λ x y. IsPartOf rule (tree (format_of to.vault) x) (tree (format_of from.vault) y)) (sym same_to) (sym same_from) k.part;
+  part = subst₂ (λ x y. IsPartOfMapped rule (tree (format_of to.vault) x) (tree (format_of from.vault) y)) (sym same_to) (sym same_from) k.part;
 }
 
 pub copied_as : (rule : NameMap) (from to : OpenedVault) (items : List Planned) (v w : View) → under from.root w ≡ under from.root v → under to.root w ≡ under to.root v → HasCopied rule from to items v → HasCopied rule from to items w
@@ -83,7 +83,7 @@ module _ (rule : NameMap) (from to : OpenedVault) (work : Path) (planned : Plann
           source = record { clean = subst (IsClean (format_of from.vault)) (sym same) k.source.clean; orderly = subst (IsOrderly (format_of from.vault)) (sym same) k.source.orderly };
           within = subst (IsWithin (format_of from.vault)) (sym same) k.within;
           target = record { clean = stays.clean; orderly = stays.orderly };
-          part = subst (λ x. IsPartOf rule (tree_at to w) (tree (format_of from.vault) x)) (sym same)
+          part = subst (λ x. IsPartOfMapped rule (tree_at to w) (tree (format_of from.vault) x)) (sym same)
               (part_gains rule (tree_at to v) (tree_at to w) (tree_at from v) planned.path item is gains.others gains.there k.part);
         };
         has = λ none. some_item item (sym gains.there ∙ none);

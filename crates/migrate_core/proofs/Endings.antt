@@ -20,10 +20,10 @@ use Rattle.plain_tree.specs.declared.name_map.NameMap.{NameMap}
 use Rattle.migration_spec.specs.Alone.{Progress, Unbegun, Begun, Finished, IsAlone, IsIn, StaysGuarded}
 use Rattle.tree_match.specs.Comparing.{Is}
 use Rattle.migration_spec.specs.Guard.{Migration, HoldsAll, HoldsSource, IsThere, Tells, tree_at}
-use Rattle.vault_spec.specs.Mapped.{HasNoBroken, IsHeldIn, IsMapped, IsPartOf, IsWhole, StaysApart}
+use Rattle.vault_spec.specs.Mapped.{HasNoBroken, IsHeldIn, IsMapped, IsPartOfMapped, IsWhole, StaysApart}
 use Rattle.migration_sides.specs.Sides.{IsWalked, opened_in}
 use Rattle.folder_spec.specs.Apart.{AreSeparate}
-use Rattle.tree_match.specs.Trees.{Side, HoldsAllBy, AsSame, IsMappedWalkOf, IsWalkOf, match_of, side_of, tree_of}
+use Rattle.tree_match.specs.Trees.{PlannedVault, HoldsAllBy, AsSame, IsMappedWalkOf, IsWalkOf, match_of, side_of, tree_of}
 use Rattle.tree_match.specs.declared.answer.Match.TheVariants.{Same}
 use Rattle.vault_spec.specs.Opened.{OpenedVault}
 use Rattle.vault_read.specs.OwnFolders.{HasOwnFolders}
@@ -62,14 +62,14 @@ unfolding opened
 root_directory f u = refl
 
 abbrev pub HoldsHeld : Type 0
-HoldsHeld = (v : View) (names : NameMap) (a b : Side) → IsMappedWalkOf names v a → IsWalkOf v b → HoldsAllBy (match_of v a b) → IsHeldIn names (tree_of v a) (tree_of v b)
+HoldsHeld = (v : View) (names : NameMap) (a b : PlannedVault) → IsMappedWalkOf names v a → IsWalkOf v b → HoldsAllBy (match_of v a b) → IsHeldIn names (tree_of v a) (tree_of v b)
 
 abbrev pub SameIsPart : Type 0
-SameIsPart = (v : View) (names : NameMap) (a b : Side) → IsMappedWalkOf names v a → IsWalkOf v b → match_of v a b ≡ Is Same → IsPartOf names (tree_of v b) (tree_of v a)
+SameIsPart = (v : View) (names : NameMap) (a b : PlannedVault) → IsMappedWalkOf names v a → IsWalkOf v b → match_of v a b ≡ Is Same → IsPartOfMapped names (tree_of v b) (tree_of v a)
 
 -- a tree that is held in another, of which that is part, comes to that
 abbrev pub BothAreMapped : Type 0
-BothAreMapped = (names : NameMap) (m t : Tree) → t [] ≡ m [] → IsHeldIn names m t → IsPartOf names t m → IsMapped names m t
+BothAreMapped = (names : NameMap) (m t : Tree) → t [] ≡ m [] → IsHeldIn names m t → IsPartOfMapped names t m → IsMapped names m t
 
 -- a tree that is held in another has no broken file, where its root is a directory
 held_whole : (rule : NameMap) (m t : Tree) → m [] ≡ Directory → IsHeldIn rule m t → HasNoBroken m

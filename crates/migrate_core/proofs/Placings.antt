@@ -32,7 +32,7 @@ use Rattle.vault_spec.specs.Making.{NewItem, NewDirectory, NewFile}
 use Rattle.vault_spec.specs.Plan.{Planned}
 use Rattle.vault_write.proofs.Runs.{went_with}
 use Rattle.vault_write.specs.Calls.{New, MakesAt, MakesDirectory, MakesFile, MakesOne}
-use Rattle.item_making.specs.Making.{Making, Placing, MayCome, StagesOrPlaces, is_apart, is_inside, is_staged, format, making_in, new_item}
+use Rattle.item_making.specs.Making.{Making, Placing, HasPlace, StagesOrPlaces, is_apart, is_inside, is_staged, format, making_in, new_item}
 use Rattle.item_making.specs.Placing.{IsMaking, making_at}
 use Rattle.item_making.specs.Trees.{opens_as}
 use Rattle.work_folder.specs.Entering.{IsReady}
@@ -76,7 +76,7 @@ places_bring root work apart m new s (Create p) h = below_root root work apart p
 places_bring root work apart m new s (Append p piece) h = tt
 places_bring root work apart m new s (Sync p) h = tt
 places_bring root work apart m new s Settle h = tt
-places_bring root work apart m new s (Rename staged at) h = (below_root root work apart staged h.0, root_below root work apart staged h.0, inr (h.0, subst (λ r. MayCome r s staged at) new h.2))
+places_bring root work apart m new s (Rename staged at) h = (below_root root work apart staged h.0, root_below root work apart staged h.0, inr (h.0, subst (λ r. HasPlace r s staged at) new h.2))
 places_bring root work apart m new s (RemoveFile p) h = below_root root work apart p h
 places_bring root work apart m new s (RemoveDir p) h = below_root root work apart p h
 

@@ -26,7 +26,7 @@ use Rattle.migration_spec.proofs.Kept.{source_in}
 use Rattle.migration_spec.specs.Alone.{Progress, IsAlone, IsIn}
 use Rattle.tree_match.specs.Comparing.{bytes_found, content_at}
 use Rattle.migration_spec.specs.Guard.{HoldsSource, Migration, tree_at}
-use Rattle.tree_match.specs.Trees.{Side, IsMappedWalkOf, IsWalkOf, side_of, tree_of}
+use Rattle.tree_match.specs.Trees.{PlannedVault, IsMappedWalkOf, IsWalkOf, side_of, tree_of}
 use Rattle.vault_read.specs.Contents.{Reader, limited_reading}
 use Rattle.vault_spec.specs.Opened.{OpenedVault}
 use Rattle.vault_spec.specs.Alike.{IsOrderly}
@@ -88,7 +88,7 @@ mapped_alike rule m t path opened same x = record { from = x.from; comes = x.com
 -- ---- a directory
 
 abbrev pub DirectoriesOpen : Type 0
-DirectoriesOpen = (v : View) (names : NameMap) (a : Side) (item : Planned) → IsMappedWalkOf names v a → Contains a.items item → item.node ≡ Dir → IsMappedItem names (tree_of v a) item.path Directory
+DirectoriesOpen = (v : View) (names : NameMap) (a : PlannedVault) (item : Planned) → IsMappedWalkOf names v a → Contains a.items item → item.node ≡ Dir → IsMappedItem names (tree_of v a) item.path Directory
 
 pub directory_held : SeenAlone → DirectoriesOpen → (g : Migration) (p : Progress) (t : Option Told) (a : Told) (item : Planned) → t ≡ Some a → IsAlone g p a.state → IsItemOf g.names t g.source item
     → item.node ≡ Dir → IsMappedItem g.names g.held item.path Directory
@@ -99,7 +99,7 @@ directory_held shown opens g p t a item is at of node =
 -- ---- a file
 
 abbrev pub FilesOpen : Type 0
-FilesOpen = (v : View) (names : NameMap) (a : Side) (item : Planned) → IsMappedWalkOf names v a → Contains a.items item → item.node ≡ File → (content_at (format_of a.vault).content v item.at).ending ≡ reading.Whole
+FilesOpen = (v : View) (names : NameMap) (a : PlannedVault) (item : Planned) → IsMappedWalkOf names v a → Contains a.items item → item.node ≡ File → (content_at (format_of a.vault).content v item.at).ending ≡ reading.Whole
     → IsMappedItem names (tree_of v a) item.path (Content (content_at (format_of a.vault).content v item.at).bytes)
 
 abbrev pub FilesFit : Type 0

@@ -25,7 +25,7 @@ use Rattle.migrate_core.proofs.WorkFolders.{begun_moves}
 use Rattle.migrate_core.proofs.Writings.{Kept}
 use Rattle.migrate_core.proofs.SourcePlaces.{kept_by, lacked_is, source_beside_at}
 use Rattle.migrate_core.specs.Causes.{Answer, Moves, StopsSeen, Unless}
-use Rattle.migrate_core.specs.Copying.{CopiesAll, HasCopied, HaveOwnFolders, MayBegin, StayGood}
+use Rattle.migrate_core.specs.Copying.{CopiesAll, HasCopied, BothHaveOwnFolders, MayBegin, StayGood}
 use Rattle.migrate_core.specs.Moving.{MovesOnly}
 use Rattle.migrate_core.specs.Sides.{AreItemsToMove}
 use Rattle.migrate_core.specs.Written.{lacked}
@@ -60,11 +60,11 @@ module _ (rule : NameMap) (from to : OpenedVault) (through : Path) (own mapped t
   lacked_kept = items_kept (lacked there mapped) (lacked_is there mapped)
 
   -- the whole stops as they do
-  pub readied_stops : {Y : Type 0} (readies : work.Answer → Type 0) (v : View) (answer : Answer Y) → AreItemsToMove rule t from own mapped → MayBegin rule from to there t → IsSeen t v → readies (Ok tt)
+  pub readied_stops : {Y : Type 0} (readies : work.Looked → Type 0) (v : View) (answer : Answer Y) → AreItemsToMove rule t from own mapped → MayBegin rule from to there t → IsSeen t v → readies (Ok tt)
       → IfErr answer (StopsSeen (HasCopied rule from to there) u from mapped) → Unless answer (Moves readies from to v mapped answer)
   readied_stops readies v answer walked copying seen ready stops =
       moves_pass readies from to v mapped answer ready
-      (seen_stops answer (HaveOwnFolders from to) from mapped t v seen (if_stops_before answer (HasCopied rule from to there) (HaveOwnFolders from to) from mapped t u (items_kept mapped (λ item among. among) walked)
+      (seen_stops answer (BothHaveOwnFolders from to) from mapped t v seen (if_stops_before answer (HasCopied rule from to there) (BothHaveOwnFolders from to) from mapped t u (items_kept mapped (λ item among. among) walked)
       (λ x w is_x is_w own. copied_as rule from to there x w (source_is x w is_x is_w) (target_is x w is_x is_w) (copying x is_x own)) stops))
 
   -- and leaves both vaults in good order

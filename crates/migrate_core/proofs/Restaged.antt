@@ -22,7 +22,7 @@ use Rattle.plain_tree.specs.Mapped.{mapped_path}
 use Rattle.plain_tree.specs.Names as plain
 use Rattle.plain_tree.specs.declared.name_map.NameMap.{NameMap}
 use Rattle.tree_match.specs.Mapping.{IsMappedPlan}
-use Rattle.tree_match.specs.Trees.{Side, IsWalkOf, side_of, tree_of}
+use Rattle.tree_match.specs.Trees.{PlannedVault, IsWalkOf, side_of, tree_of}
 use Rattle.vault_spec.specs.Opened.{OpenedVault}
 use Rattle.vault_spec.proofs.Mapped.{contains_mapped, mapped_from}
 use Rattle.vault_spec.specs.Opens.{Tree}
@@ -85,7 +85,7 @@ stage_alone stages g p work (Some a) None is changes = absurd changes
 
 -- a walk tells the tree
 abbrev pub PlansTell : Type 0
-PlansTell = (v : View) (a : Side) → IsWalkOf v a → IsPlanOf (tree_of v a) a.items
+PlansTell = (v : View) (a : PlannedVault) → IsWalkOf v a → IsPlanOf (tree_of v a) a.items
 
 not_root : (rule : NameMap) (path : plain.Path) → path ≢ [] → mapped_path rule path ≢ []
 not_root rule [] named e = named refl

@@ -5,14 +5,14 @@ use Rattle.tree_match.proofs.HeldTrees.{HoldsEach, found_with, held_each, none_f
 use Rattle.tree_match.proofs.SamePaths.{HasPath, same_items}
 use Rattle.tree_match.specs.Comparing.{Is, Outcome}
 use Rattle.tree_match.specs.Matching.{first_further, held_by, item_with}
-use Rattle.tree_match.specs.Trees.{Side, match_of}
+use Rattle.tree_match.specs.Trees.{PlannedVault, match_of}
 use Rattle.tree_match.specs.declared.answer.How.{How}
 use Rattle.tree_match.specs.declared.answer.Match.TheVariants.{Same}
 use Rattle.vault_spec.specs.Plan.{Planned}
 use Rattle.vault_spec.specs.Vault.{format_of}
 use Rattle.vault_walk.specs.Survey.{IsOrdered}
 
-pub same_length : (v : View) (a b : Side) → IsOrdered a.items → IsOrdered b.items → match_of v a b ≡ Is Same → length a.items ≡ length b.items
+pub same_length : (v : View) (a b : PlannedVault) → IsOrdered a.items → IsOrdered b.items → match_of v a b ≡ Is Same → length a.items ≡ length b.items
 same_length v a b ordered ordered_b same =
     same_items a.items b.items ordered ordered_b (λ x among. in_other x (all.each x among))
     (λ y among. let found = none_further a.items b.items all.last_is y among in let x = found_with y.path a.items found.0 found.1 in (found.0, x.0, x.1))

@@ -28,7 +28,7 @@ use Rattle.folder_spec.specs.Apart.{AreApart}
 use Rattle.tree_match.specs.Trees.{IsWalkOf, side_of}
 use Rattle.vault_read.specs.Laws.{KeepsVaults}
 use Rattle.vault_spec.specs.Opened.{OpenedVault}
-use Rattle.vault_spec.specs.Alike.{IsNoItem}
+use Rattle.vault_spec.specs.Alike.{HasNoItem}
 use Rattle.vault_spec.specs.Format.{file_bytes}
 use Rattle.vault_spec.specs.Making.{NewItem}
 use Rattle.vault_spec.specs.Opens as opens
@@ -214,11 +214,11 @@ module _ (work : Path) (region : Path → Bool) (root : Path) where
 
 -- ---- one item
 
-no_item : FilesAreThere → (vault : Vault) (u : View) (path : plain.Path) → tree (format_of vault) u path ≡ NoItem → IsNoItem (standing (format_of vault) u path)
+no_item : FilesAreThere → (vault : Vault) (u : View) (path : plain.Path) → tree (format_of vault) u path ≡ NoItem → HasNoItem (standing (format_of vault) u path)
 unfolding opened
 no_item files vault u path none = by (standing (format_of vault) u path) refl none
   where
-    by : (s : Standing) → standing (format_of vault) u path ≡ s → opens.opened_at (format_of vault) u s ≡ NoItem → IsNoItem s
+    by : (s : Standing) → standing (format_of vault) u path ≡ s → opens.opened_at (format_of vault) u s ≡ NoItem → HasNoItem s
     by Absent e n = tt
     by (Strange at) e n = tt
     by (Dir at directory) e n = cc n
@@ -272,8 +272,8 @@ module _ (behind : StandBehind) (files : FilesAreThere) (leads : EnteredLeads) (
           way : Leads (format_of to.vault) (under to.root v) front a.2.dir
           way = (leads (format_of to.vault) (under to.root v) front a.2.dir).0 a.2.there.entered
 
-          missing : IsNoItem (standing_in (format_of to.vault) (under to.root v) a.2.dir name)
-          missing = subst IsNoItem (behind (format_of to.vault) (under to.root v) front a.2.dir name way)
+          missing : HasNoItem (standing_in (format_of to.vault) (under to.root v) a.2.dir name)
+          missing = subst HasNoItem (behind (format_of to.vault) (under to.root v) front a.2.dir name way)
               (no_item files to.vault (under to.root v) (front ++ name ∷ []) (subst (λ p. tree_at to v p ≡ NoItem) path l.lacks))
 
   pub item_stops : AreApart to.root work → (why : PutFault) → MakesAt New to work planned.path item ending drawn t u (Err why) → StopsFor (SharesFrom (Lacks rule from to planned) to (planned ∷ []) s s' t u) (of_put why)

@@ -7,12 +7,12 @@ use Rattle.folder_spec.specs.Seen.{IfSeen, seen, under}
 use Rattle.folder_spec.specs.State.{State, present}
 use Rattle.folder_spec.specs.View.{View, found}
 use Rattle.tree_match.specs.Comparing.{Is}
-use Rattle.vault_spec.specs.Mapped.{IsPartOf}
+use Rattle.vault_spec.specs.Mapped.{IsPartOfMapped}
 use Rattle.migration_sides.specs.Causes.{Walks}
 use Rattle.migration_sides.specs.Sides.{IsWalked}
 use Rattle.plain_tree.specs.declared.name_map.NameMap.{NameMap}
 use Rattle.tree_match.specs.Mapping.{IsMappedPlan}
-use Rattle.tree_match.specs.Trees.{AndFurther, AsSame, HoldsAllBy, IsMappedWalkOf, IsWalkOf, Side, match_of, side_of, tree_of}
+use Rattle.tree_match.specs.Trees.{AndFurther, AsSame, HoldsAllBy, IsMappedWalkOf, IsWalkOf, PlannedVault, match_of, side_of, tree_of}
 use Rattle.tree_match.specs.declared.answer.Match.{Match}
 use Rattle.tree_match.specs.declared.answer.Match.TheVariants.{Contained, Differs, Same}
 use Rattle.move_journal.specs.declared.journal.Journal.{Journal}
@@ -50,7 +50,7 @@ CleanIsOrderly a = (v : View) → HasFolders v → HasOwnFolders a.vault v → I
 
 -- the target's tree is part of the source's, as walks of both tell
 abbrev pub HeldAtFirst : NameMap → OpenedVault → OpenedVault → List Planned → List Planned → Option Told → Type 0
-HeldAtFirst rule from to items there t = IfSeen t (λ v. IsWalkOf v (side_of from items) → IsWalkOf v (side_of to there) → IsPartOf rule (tree_at to v) (tree_at from v))
+HeldAtFirst rule from to items there t = IfSeen t (λ v. IsWalkOf v (side_of from items) → IsWalkOf v (side_of to there) → IsPartOfMapped rule (tree_at to v) (tree_at from v))
 
 pub may_begin : TellsTree → (rule : NameMap) (from to : OpenedVault) → CleanIsOrderly from → CleanIsOrderly to → (items there : List Planned) (t : Option Told) → AreSound t → IsWalked t from items → IsWalked t to there
     → IfSeen t (λ v. Walks from v (Ok items)) → HeldAtFirst rule from to items there t → MayBegin rule from to there t
@@ -75,7 +75,7 @@ empty_held tells rule from to items t v is a b path named there =
 
 -- what a vault holds of a mapped one is part of it
 abbrev pub HeldIsPartOf : Type 0
-HeldIsPartOf = (v : View) (rule : NameMap) (a b : Side) → IsWalkOf v a → IsMappedWalkOf rule v b → HoldsAllBy (match_of v a b) → IsPartOf rule (tree_of v a) (tree_of v b)
+HeldIsPartOf = (v : View) (rule : NameMap) (a b : PlannedVault) → IsWalkOf v a → IsMappedWalkOf rule v b → HoldsAllBy (match_of v a b) → IsPartOfMapped rule (tree_of v a) (tree_of v b)
 
 -- what is in the target was compared
 module _ (from to : OpenedVault) (journal : Journal) (v : View) (items mapped there : List Planned) where

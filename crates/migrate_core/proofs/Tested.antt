@@ -83,7 +83,7 @@ work_places (works.Foreign at) = tt
 work_places works.Begun = tt
 work_places works.Depth = tt
 
-pub moves_places : {T : Type 0} (readies : looking.Answer → Type 0) (from to : OpenedVault) (v : View) (items : List Planned) (answer : Result T MoveFault) → Unless answer (Moves readies from to v items answer) → IfErr answer IsOfPlacing
+pub moves_places : {T : Type 0} (readies : looking.Looked → Type 0) (from to : OpenedVault) (v : View) (items : List Planned) (answer : Result T MoveFault) → Unless answer (Moves readies from to v items answer) → IfErr answer IsOfPlacing
 moves_places readies from to v items (Ok value) h = tt
 moves_places readies from to v items (Err fault) h = elim h [
   | inl failed ↦ let same : fault ≡ Failed = cc failed in subst IsOfPlacing (sym same) tt

@@ -9,7 +9,7 @@ use Rattle.plain_tree.specs.Names as plain
 use Rattle.plain_tree.specs.declared.NodeKind.{NodeKind}
 use Rattle.plain_tree.specs.declared.NodeKind.TheVariants as node
 use Rattle.plain_tree.specs.declared.name_map.NameMap.{NameMap}
-use Rattle.vault_spec.specs.Mapped.{IsMappedItem, IsPartOf}
+use Rattle.vault_spec.specs.Mapped.{IsMappedItem, IsPartOfMapped}
 use Rattle.vault_spec.specs.Alike.{IsOrderly}
 use Rattle.vault_spec.specs.Format.{Directory, Format, file_bytes}
 use Rattle.vault_spec.specs.Listing.{node_of}
@@ -120,7 +120,7 @@ coming_items rule f v (x ∷ items) each =
     coming_more rule f v x items (each x (zero, omega arith, refl)) (coming_items rule f v items (λ item among. each item (suc among.0, omega (arith, among.1), among.2)))
 
 module _ (below : StandBelow) (behind : StandBehind) (files : FilesAreThere) (rule : NameMap) (from to : Vault) (u w : View) (orderly : IsOrderly (format_of from) u) (orderly_to : IsOrderly (format_of to) w)
-    (part : IsPartOf rule (tree (format_of to) w) (tree (format_of from) u)) where
+    (part : IsPartOfMapped rule (tree (format_of to) w) (tree (format_of from) u)) where
   -- an item of the one vault comes from one of the other
   other_spot : (front : plain.Path) (dir : Directory) (name : List ℕ) (kind : NodeKind) → Leads (format_of to) w front dir → node_of (standing_in (format_of to) w dir name) ≡ Some kind
       → ComingSpot rule (format_of from) u front name

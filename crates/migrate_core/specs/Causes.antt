@@ -38,7 +38,7 @@ use Rattle.vault_walk.specs.Digest.{plan_digest}
 use Rattle.work_folder.specs.Entering.{Empties, EntersAs}
 use Rattle.work_folder.specs.Looking.{Tests, TestsEntries}
 use Rattle.work_folder.specs.Looking as work
-use Rattle.migrate_core.specs.Copying.{HaveOwnFolders}
+use Rattle.migrate_core.specs.Copying.{BothHaveOwnFolders}
 use Rattle.migrate_core.specs.Faults.{of_journal, of_map, of_match, of_step, of_work}
 use Rattle.migrate_core.specs.Sides.{AllowsMappedLast, AreTold}
 use Rattle.migrate_core.specs.declared.fault.MoveFault.{MoveFault}
@@ -161,8 +161,8 @@ IsOfMoving Is P (Ok value) = Unit {0}
 IsOfMoving Is P (Err fault) = IsStop Is P fault
 
 -- the stage is made ready, as the work folder answers, and then items are moved between vaults of which no two directories share a folder
-abbrev pub Moves : {Y : Type 0} → (work.Answer → Type 0) → OpenedVault → OpenedVault → View → List Planned → Answer Y → Type 0
-Moves readies from to v items = Then of_work readies (λ _. IsOfMoving (HaveOwnFolders from to v) (StopsAt (HaveOwnFolders from to v) from v items))
+abbrev pub Moves : {Y : Type 0} → (work.Looked → Type 0) → OpenedVault → OpenedVault → View → List Planned → Answer Y → Type 0
+Moves readies from to v items = Then of_work readies (λ _. IsOfMoving (BothHaveOwnFolders from to v) (StopsAt (BothHaveOwnFolders from to v) from v items))
 
 -- the tests of `begin` of two opened vaults: both are clean, the target is empty and allows each mapped name, and no two items come to
 -- one path

@@ -5,7 +5,7 @@ use Rattle.folder_spec.specs.Seen.{IfSeen, IsSeen, under}
 use Rattle.folder_spec.specs.View.{View}
 use Rattle.plain_tree.specs.Names as plain
 use Rattle.plain_tree.specs.declared.name_map.NameMap.{NameMap}
-use Rattle.vault_spec.specs.Mapped.{IsPartOf}
+use Rattle.vault_spec.specs.Mapped.{IsPartOfMapped}
 use Rattle.vault_read.specs.OwnFolders.{HasOwnFolders}
 use Rattle.vault_spec.specs.Opened.{OpenedVault}
 use Rattle.vault_spec.specs.Find.{enter}
@@ -20,7 +20,7 @@ use Rattle.migration_spec.specs.Guard.{tree_at}
 use Rattle.item_making.specs.Trees.{ShowsVault}
 
 -- no two directories of either vault share a folder
-pub record HaveOwnFolders (from to : OpenedVault) (v : View) : Type 0 where
+pub record BothHaveOwnFolders (from to : OpenedVault) (v : View) : Type 0 where
   pub source : HasOwnFolders from.vault (under from.root v)
   pub target : HasOwnFolders to.vault (under to.root v)
 
@@ -29,7 +29,7 @@ pub record IsCopying (rule : NameMap) (from to : OpenedVault) (v : View) : Type 
   pub source : ShowsVault (format_of from.vault) from.root v
   pub within : IsWithin (format_of from.vault) (under from.root v)
   pub target : ShowsVault (format_of to.vault) to.root v
-  pub part : IsPartOf rule (tree_at to v) (tree_at from v)
+  pub part : IsPartOfMapped rule (tree_at to v) (tree_at from v)
 
 abbrev pub HasItem : OpenedVault → View → Planned → Type 0
 HasItem a v item = tree_at a v item.path ≢ NoItem
@@ -67,8 +67,8 @@ CopiesAll rule from to there items told told' = (v w : View) → IsSeen told v �
 
 -- so it is where no two directories of either vault share a folder
 abbrev pub MayBegin : NameMap → OpenedVault → OpenedVault → List Planned → Option Told → Type 0
-MayBegin rule from to there told = IfSeen told (λ v. HaveOwnFolders from to v → HasCopied rule from to there v)
+MayBegin rule from to there told = IfSeen told (λ v. BothHaveOwnFolders from to v → HasCopied rule from to there v)
 
 -- and in good order both are then
 abbrev pub StayGood : OpenedVault → OpenedVault → Option Told → Option Told → Type 0
-StayGood from to told told' = (v w : View) → IsSeen told v → IsSeen told' w → HaveOwnFolders from to v → ShowsVault (format_of from.vault) from.root w × ShowsVault (format_of to.vault) to.root w
+StayGood from to told told' = (v w : View) → IsSeen told v → IsSeen told' w → BothHaveOwnFolders from to v → ShowsVault (format_of from.vault) from.root w × ShowsVault (format_of to.vault) to.root w

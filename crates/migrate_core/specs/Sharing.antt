@@ -11,7 +11,7 @@ use Rattle.plain_tree.specs.declared.NodeKind.TheVariants.{Dir, File}
 use Rattle.port_model.specs.Draws.{ByteStream, Draws}
 use Rattle.item_making.specs.declared.fault.PutFault.TheVariants as put
 use Rattle.vault_spec.specs.Opened.{OpenedVault}
-use Rattle.vault_spec.specs.Alike.{IsNoItem}
+use Rattle.vault_spec.specs.Alike.{HasNoItem}
 use Rattle.vault_spec.specs.Find.{enter}
 use Rattle.vault_spec.specs.Format.{Directory}
 use Rattle.vault_spec.specs.Making.{NewItem, NewDirectory, NewFile}
@@ -22,7 +22,7 @@ use Rattle.vault_spec.specs.Staying.{LoadsAlike}
 use Rattle.vault_spec.specs.Tidy.{HasOwnPlace, IsTidy}
 use Rattle.vault_spec.specs.Vault.{Vault, IsVault, format_of}
 use Rattle.item_making.specs.Trees.{ShowsVault}
-use Rattle.migrate_core.specs.Copying.{HasCopied, HaveOwnFolders, IsCopying}
+use Rattle.migrate_core.specs.Copying.{HasCopied, BothHaveOwnFolders, IsCopying}
 use Rattle.migration_spec.specs.Guard.{tree_at}
 use Rattle.migration_sides.specs.Sides.{opened_in}
 use Rattle.migrate_core.specs.Moved.{AreMappedItems}
@@ -49,7 +49,7 @@ pub record SharesPlace (to : OpenedVault) (planned : Planned) (drawn : List ℕ)
   pub is : planned.path ≡ front ++ name ∷ []
   pub dir : Directory
   pub entered : enter (format_of to.vault) (under to.root v) front ≡ Ok dir
-  pub missing : IsNoItem (standing_in (format_of to.vault) (under to.root v) dir name)
+  pub missing : HasNoItem (standing_in (format_of to.vault) (under to.root v) dir name)
   pub item : NewItem
   pub kind : IsMadeFor planned.node item
   pub shares : ¬ HasOwnPlace (format_of to.vault) (under to.root v) dir name item drawn
@@ -75,7 +75,7 @@ pub record OneOfSourceShares (rule : NameMap) (from to : OpenedVault) (stream st
 
 -- where at first no two directories of either vault share a folder, and the target is tidy
 abbrev pub SharesWhereTidy : NameMap → OpenedVault → OpenedVault → Option ByteStream → Option ByteStream → Option Told → Option Told → Type 0
-SharesWhereTidy rule from to stream stream' told told' = (v : View) → IsSeen told v → HaveOwnFolders from to v → IsTidyAt to v
+SharesWhereTidy rule from to stream stream' told told' = (v : View) → IsSeen told v → BothHaveOwnFolders from to v → IsTidyAt to v
     → OneOfSourceShares rule from to stream stream' told told' v
 
 -- of the vaults that two roots and their passphrases are

@@ -8,7 +8,7 @@ use Rattle.folder_spec.specs.Path.{Path}
 use Rattle.folder_spec.specs.Seen.{IfSeen, IsSeen, under}
 use Rattle.folder_spec.specs.View.{Found, NoEntry, Folder, FileOf, Special, View}
 use Rattle.migrate_core.specs.Causes.{Begins, BeginsApart, BeginsWith, ForbidsMappedLast, IsOfMoving, IsStop, Moves, Resumes, ResumesTold, ResumesWith, StopsAt, TestsEmpty, TestsHeld, TestsItems, TestsMapped, TestsMatch, TestsNames, TestsSource, TestsTold, is_done, where_in}
-use Rattle.migrate_core.specs.Copying.{HaveOwnFolders}
+use Rattle.migrate_core.specs.Copying.{BothHaveOwnFolders}
 use Rattle.migrate_core.specs.Faults.{of_journal, of_map, of_match, of_step, of_work}
 use Rattle.migration_sides.specs.Causes.{Opens, TestsApart, Walks, WalksBoth, of_refusal}
 use Rattle.migration_sides.specs.Faults.{of_walk}
@@ -72,7 +72,7 @@ use Rattle.command_words.specs.declared.commands.Resuming.{Resuming}
 use Rattle.open_for_reading.proofs.Printings.{IsPrinted}
 use Rattle.migration_commands.proofs.Rows.{migrate_row, resume_row, retire_row}
 use Rattle.migration_answers.specs.Faults.{of_move, of_retire}
-use Rattle.migration_commands.specs.Migrate.{MigratesApart, MigratesTree, OwnFolders, Pair, first_overlap}
+use Rattle.migration_commands.specs.Migrate.{MigratesApart, MigratesTree, SidesHaveOwnFolders, Pair, first_overlap}
 use Rattle.migration_commands.specs.Migrate as migrating
 use Rattle.migration_commands.specs.Moving.{AnswersBy, ArePhrases, OfPasses}
 use Rattle.open_for_reading.specs.Opening.{OfPassFile, passphrase_in}
@@ -186,9 +186,9 @@ module _ (from to work : Path) (source_pass target_pass : List ℕ) (v : View) (
   -- the two vaults open, and two directories of one of them share a folder
   abbrev SharesFolder : Type 0
   SharesFolder =
-      (source target : Vault) × Loads (under from v) source_pass (Ok source) × Loads (under to v) target_pass (Ok target) × (¬ HaveOwnFolders (opened_in from source) (opened_in to target) v)
+      (source target : Vault) × Loads (under from v) source_pass (Ok source) × Loads (under to v) target_pass (Ok target) × (¬ BothHaveOwnFolders (opened_in from source) (opened_in to target) v)
 
-  module _ (rule : NameMap) (a b : OpenedVault) (shares : ¬ HaveOwnFolders a b v → SharesFolder) where
+  module _ (rule : NameMap) (a b : OpenedVault) (shares : ¬ BothHaveOwnFolders a b v → SharesFolder) where
     abbrev moved : List Planned → Result placing.Done MoveFault → Type 0
     moved items = Moves (EntersAs v work) a b v items
 
@@ -197,8 +197,8 @@ module _ (from to work : Path) (source_pass target_pass : List ℕ) (v : View) (
 
     moved_or : (items : List Planned) → moved items (Err why) → OnDiffer SharesFolder why
     moved_or items =
-        told_then (OnDiffer SharesFolder) of_work (EntersAs v work) (λ (_ : Unit {0}). IsOfMoving (HaveOwnFolders a b v) (StopsAt (HaveOwnFolders a b v) a v items)) why (λ fault refused. work_or SharesFolder fault)
-        (λ x passed. stop_or (HaveOwnFolders a b v) SharesFolder (StopsAt (HaveOwnFolders a b v) a v items) shares why)
+        told_then (OnDiffer SharesFolder) of_work (EntersAs v work) (λ (_ : Unit {0}). IsOfMoving (BothHaveOwnFolders a b v) (StopsAt (BothHaveOwnFolders a b v) a v items)) why (λ fault refused. work_or SharesFolder fault)
+        (λ x passed. stop_or (BothHaveOwnFolders a b v) SharesFolder (StopsAt (BothHaveOwnFolders a b v) a v items) shares why)
 
     emptied_or : (items there : List Planned) → emptied items there (Err why) → OnDiffer SharesFolder why
     emptied_or items there =
@@ -266,8 +266,8 @@ module _ (work : Path) (source_pass target_pass : List ℕ) (v : View) (why : Mo
 
     goes_not : (items : List Planned) → goes items (Err why) → NotBegun why
     goes_not items =
-        told_then NotBegun of_work (Empties v work) (λ (_ : Unit {0}). IsOfMoving (HaveOwnFolders a b v) (StopsAt (HaveOwnFolders a b v) a v items)) why (λ fault empties. not_by_work fault (other_by_stage v work fault empties))
-        (λ x passed. not_by_stop (HaveOwnFolders a b v) (StopsAt (HaveOwnFolders a b v) a v items) why)
+        told_then NotBegun of_work (Empties v work) (λ (_ : Unit {0}). IsOfMoving (BothHaveOwnFolders a b v) (StopsAt (BothHaveOwnFolders a b v) a v items)) why (λ fault empties. not_by_work fault (other_by_stage v work fault empties))
+        (λ x passed. not_by_stop (BothHaveOwnFolders a b v) (StopsAt (BothHaveOwnFolders a b v) a v items) why)
 
     compares_not : (items there : List Planned) → compares items there (Err why) → NotBegun why
     compares_not items there =
@@ -479,7 +479,7 @@ answered_told command IsRoot told answer (Err fault) finished output memory any 
 
 -- ---- the three commands
 
-pub migrate_told : (moving : Moving) (answer : Answer) (before after : World) (v : View) → IsSeen before.told v → OwnFolders moving v → MigratesTree moving answer before after
+pub migrate_told : (moving : Moving) (answer : Answer) (before after : World) (v : View) → IsSeen before.told v → SidesHaveOwnFolders moving v → MigratesTree moving answer before after
     → EndsTold (Some (Migrate moving)) answer
 migrate_told moving answer before after v seen folders did = by (first_overlap moving) did.apart
   where

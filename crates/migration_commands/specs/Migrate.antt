@@ -88,8 +88,8 @@ MayCome moving answer told told' stream stream' v =
     RefusesUndrawn moving.passes answer told told' stream stream' v ⊎ ComesTo moving (AnswersMove moving.work (IsRootOf moving) answer) told told' stream stream' v
 
 -- No two directories of either vault share a folder, of the two vaults that are compared once all is placed.
-abbrev pub OwnFolders : Moving → View → Type 0
-OwnFolders moving v =
+abbrev pub SidesHaveOwnFolders : Moving → View → Type 0
+SidesHaveOwnFolders moving v =
     (source target : Vault) → Opens v moving.source moving.passes.source source → Opens v moving.target moving.passes.target target
     → HasOwnFolders source (under moving.source v) × HasOwnFolders target (under moving.target v)
 

@@ -10,7 +10,7 @@ ghost use Rattle.port_model.specs.Counts.{CountRose};
 ghost use Rattle.migration_spec.specs.Guard.{Migration};
 ghost use Rattle.open_for_reading.specs.World.{World};
 ghost use Rattle.command_words.specs.Written.{AreWritten};
-ghost use Rattle.migration_commands.specs.Migrate.{ComesTo, HasMigrated, IsAskedFor, MayCome, MigratesApart, MigratesTree, OwnFolders, root_of};
+ghost use Rattle.migration_commands.specs.Migrate.{ComesTo, HasMigrated, IsAskedFor, MayCome, MigratesApart, MigratesTree, SidesHaveOwnFolders, root_of};
 ghost use Rattle.migration_answers.specs.Stops.{is_of_stop};
 ghost use Rattle.migration_commands.specs.Moving.{Completes, KeepsAll};
 ghost use Rattle.command_answers.specs.Rows.{Ends, EndsTold};
@@ -45,7 +45,7 @@ pub fn migrate<F: Folder, R: Randoms, O: Sink>(
     ensures random_fault { result ≡ Answer.RandomFault → CountRose (R.faults random.old) (R.faults random.new) }
     ensures output_fault { result ≡ Answer.OutputFault → CountRose (O.faults out.old) (O.faults out.new) }
     ensures row { Ends (Some (Migrate moving.now)) result }
-    ensures told_row { IfSeen (F.told folder.old) (λ v. OwnFolders moving.now v → EndsTold (Some (Migrate moving.now)) result) }
+    ensures told_row { IfSeen (F.told folder.old) (λ v. SidesHaveOwnFolders moving.now v → EndsTold (Some (Migrate moving.now)) result) }
 {
     if do_overlap(&moving.source, &moving.target) {
         return overlapping(&moving.source, &moving.target);

@@ -79,7 +79,7 @@ by_folder P told same failed none folder.NoMemory = none
 pub folder_unless : {X G : Type 0} (told : FolderFault → G) → told folder.Refused ≡ told folder.Failed → (P : Type 0) (fault : FolderFault) → UnlessBy {X = X} (told folder.Failed) (told folder.NoMemory) (Err (told fault)) P
 folder_unless {X = X} told same P = by_folder (λ why. UnlessBy {X = X} (told folder.Failed) (told folder.NoMemory) (Err why) P) told same (inl refl) (inr (inl refl))
 
-pub work_refused : {Y G : Type 0} (told : WorkFault → G) (test : work.Answer → Type 0) (next : Unit {0} → Result Y G → Type 0) (why : WorkFault) → Gives {T = Unit {0}} test (Err why)
+pub work_refused : {Y G : Type 0} (told : WorkFault → G) (test : work.Looked → Type 0) (next : Unit {0} → Result Y G → Type 0) (why : WorkFault) → Gives {T = Unit {0}} test (Err why)
     → UnlessBy {X = Y} (told works.Failed) (told works.NoMemory) (Err (told why)) (Then told test next (Err (told why)))
 work_refused told test next (works.NoParent p) h = inr (inr (Err (works.NoParent p), h, refl))
 work_refused told test next (works.WrongKind p) h = inr (inr (Err (works.WrongKind p), h, refl))
@@ -166,7 +166,7 @@ walks_passes told from to v next answer items there one other h =
 
 -- ---- of one vault: why it isn't opened, or not walked
 
-pub load_refused : (side : Side) (root : Path) (v : View) (pass : List ℕ) (why : LoadFault) → why ≢ load.Failed → why ≢ load.NoMemory → loading.Refuses root (Loads (under root v) pass) why
+pub load_refused : (side : Side) (root : Path) (v : View) (pass : List ℕ) (why : LoadFault) → why ≢ load.Failed → why ≢ load.NoMemory → loading.RefusesLoading root (Loads (under root v) pass) why
     → RefusesLoad side v root pass (Load side why)
 load_refused side root v pass (load.Missing at) one two (rest, is, h) = inr (inr (Err (vault.Missing rest), h, ap (λ (p : Path). Err (Load side (load.Missing p))) is))
 load_refused side root v pass (load.WrongKind at) one two (rest, is, h) = inr (inr (Err (vault.WrongKind rest), h, ap (λ (p : Path). Err (Load side (load.WrongKind p))) is))

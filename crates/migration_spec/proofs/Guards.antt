@@ -11,7 +11,7 @@ use Rattle.folder_spec.specs.Region.{at_or_below}
 use Rattle.folder_spec.specs.Seen.{under}
 use Rattle.folder_spec.specs.View.{View, AgreeIn, Shows, found, kind_found, view_of}
 use Rattle.folder_spec.specs.declared.Kind.{Kind}
-use Rattle.vault_spec.specs.Mapped.{IsMapped, IsPartOf}
+use Rattle.vault_spec.specs.Mapped.{IsMapped, IsPartOfMapped}
 use Rattle.move_journal.proofs.Standing.{stands_alike}
 use Rattle.move_journal.specs.declared.journal.Phase.{Phase}
 use Rattle.move_journal.specs.declared.journal.Phase.TheVariants as phase
@@ -113,7 +113,7 @@ in_alike alike g Begun v w agree is = let x = are_alike alike g v w agree in rec
   journal = journal_alike g _ v w x.journal is.journal;
   target = there_alike g.target v w x.target is.target;
   apart = is.apart;
-  part = subst (λ u. IsPartOf g.names (tree (format_of g.target.vault) u) g.held) x.target is.part;
+  part = subst (λ u. IsPartOfMapped g.names (tree (format_of g.target.vault) u) g.held) x.target is.part;
   allowed = is.allowed;
 }
 in_alike alike g Finished v w agree is = let x = are_alike alike g v w agree in record {

@@ -13,7 +13,7 @@ use Rattle.folder_spec.specs.Region.{AlikeIn, apart_from}
 use Rattle.folder_spec.specs.Seen.{under}
 use Rattle.folder_spec.specs.View.{View, Shows, ShowsAmong}
 use Rattle.folder_spec.specs.declared.Kind.TheVariants as kind
-use Rattle.vault_spec.specs.Mapped.{IsMappedItem, IsPartOf, IsWhole}
+use Rattle.vault_spec.specs.Mapped.{IsMappedItem, IsPartOfMapped, IsWhole}
 use Rattle.plain_tree.specs.Names as plain
 use Rattle.plain_tree.specs.declared.name_map.NameMap.{NameMap}
 use Rattle.migration_spec.proofs.Along.{NoOdd, none_along, both_along, nothing_each}
@@ -92,7 +92,7 @@ whole_item (NewFile content) = tt
 
 -- the target's vault is kept, and each of its items is one that the source held
 builds_on : RootsAreAlike → (g : Migration) (v w : View) → IsSeparate g → IsBuilding g v → KeepsVault (format_of g.target.vault) g.target.root v w
-    → IsPartOf g.names (tree_at g.target w) g.held → IsBuilding g w
+    → IsPartOfMapped g.names (tree_at g.target w) g.held → IsBuilding g w
 builds_on alike g v w separate is keeps part = record {
   source = source_alike g w v (sym (alike g.source.root w v (λ q inside. keeps.elsewhere q (beside q (apart_below g.source.root g.target.root q separate.vaults inside))))) is.source;
   journal = journal_alike g _ w v (keeps.elsewhere (journal_path g.work) (beside (journal_path g.work) (below-apart g.target.root g.work (codes "journal" ∷ []) separate.target.one separate.target.other))) is.journal;
@@ -108,20 +108,20 @@ builds_on alike g v w separate is keeps part = record {
 abbrev pub OldOrNew : Migration → ItemAt → Ending → View → View → Type 0
 OldOrNew g x ending v w = KeepsTree (format_of g.target.vault) g.target.root v w ⊎ ((ending ≡ Whole) × GainsItem (format_of g.target.vault) g.target.root (path_of x) (opens_as x.item) v w)
 
-kept_part : (g : Migration) (v w : View) → OpensAs (format_of g.target.vault) (under g.target.root v) (under g.target.root w) → IsPartOf g.names (tree_at g.target v) g.held → IsPartOf g.names (tree_at g.target w) g.held
+kept_part : (g : Migration) (v w : View) → OpensAs (format_of g.target.vault) (under g.target.root v) (under g.target.root w) → IsPartOfMapped g.names (tree_at g.target v) g.held → IsPartOfMapped g.names (tree_at g.target w) g.held
 kept_part g v w opens part path named there =
     subst (λ o. IsMappedItem g.names g.held path o × IsWhole o) (sym (opens path)) (part path named (subst (λ o. o ≢ NoItem) (opens path) there))
 
 -- a tree that is part of a mapped one stays so where it gains an item of that
 pub part_gains : (names : NameMap) (t u m : Tree) (at : plain.Path) (item : NewItem) → IsMappedItem names m at (opens_as item) → ((path : plain.Path) → path ≢ at → u path ≡ t path) → u at ≡ opens_as item
-    → IsPartOf names t m → IsPartOf names u m
+    → IsPartOfMapped names t m → IsPartOfMapped names u m
 part_gains names t u m at item held others there part path named is = elim (one_or_not path at) [
   | inl same ↦ subst (λ p. IsMappedItem names m p (u p) × IsWhole (u p)) (sym same) (subst (IsMappedItem names m at) (sym there) held, subst IsWhole (sym there) (whole_item item))
   | inr other ↦ subst (λ o. IsMappedItem names m path o × IsWhole o) (sym (others path other.0)) (part path named (subst (λ o. o ≢ NoItem) (others path other.0) is))
 ]
 
 gained_part : (g : Migration) (x : ItemAt) (v w : View) → IsHeld g x → OpensWith (format_of g.target.vault) (under g.target.root v) (under g.target.root w) (path_of x) (opens_as x.item)
-    → IsPartOf g.names (tree_at g.target v) g.held → IsPartOf g.names (tree_at g.target w) g.held
+    → IsPartOfMapped g.names (tree_at g.target v) g.held → IsPartOfMapped g.names (tree_at g.target w) g.held
 gained_part g x v w held opens = part_gains g.names (tree_at g.target v) (tree_at g.target w) g.held (path_of x) x.item held opens.others opens.there
 
 builds : RootsAreAlike → (g : Migration) (x : ItemAt) (ending : Ending) (v w : View) → IsSeparate g → (ending ≡ Whole → IsHeld g x) → IsBuilding g v → OldOrNew g x ending v w → IsBuilding g w

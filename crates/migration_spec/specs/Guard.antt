@@ -12,7 +12,7 @@ use Rattle.folder_spec.specs.View.{View, NoEntry, kind_found, view_of}
 use Rattle.folder_spec.specs.declared.Kind.{Kind}
 use Rattle.folder_spec.specs.declared.Kind.TheVariants as kind
 use Rattle.vault_spec.specs.PlanOf.{IsPlanOf}
-use Rattle.vault_spec.specs.Mapped.{AllowsTree, HasNoBroken, IsMapped, IsPartOf, StaysApart}
+use Rattle.vault_spec.specs.Mapped.{AllowsTree, HasNoBroken, IsMapped, IsPartOfMapped, StaysApart}
 use Rattle.move_journal.specs.Journal.{IsJournal}
 use Rattle.move_journal.specs.Reading.{StandsIn}
 use Rattle.move_journal.specs.declared.journal.Journal.{Journal}
@@ -115,7 +115,7 @@ pub record IsBuilding (g : Migration) (v : View) : Type 0 where
   pub journal : HasJournal g phase.Building v
   pub target : IsThere g.target v
   pub apart : StaysApart g.names g.held
-  pub part : IsPartOf g.names (tree_at g.target v) g.held
+  pub part : IsPartOfMapped g.names (tree_at g.target v) g.held
   pub allowed : AllowsTree g.names (format_of g.target.vault) g.held
 
 pub record IsDone (g : Migration) (v : View) : Type 0 where

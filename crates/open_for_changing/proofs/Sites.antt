@@ -26,7 +26,7 @@ use Rattle.command_words.specs.declared.commands.Change.{Change}
 
 -- ---- what follows
 
-work_by : (at : Path) (answer : Answer) (P Q : Type 0) (entered : work.Answer) → (P → Q) → MatchResult entered (λ done. P) (λ fault. answer ≡ of_work at fault) → MatchResult entered (λ done. Q) (λ fault. answer ≡ of_work at fault)
+work_by : (at : Path) (answer : Answer) (P Q : Type 0) (entered : work.Looked) → (P → Q) → MatchResult entered (λ done. P) (λ fault. answer ≡ of_work at fault) → MatchResult entered (λ done. Q) (λ fault. answer ≡ of_work at fault)
 work_by at answer P Q (Ok done) f x = f x
 work_by at answer P Q (Err fault) f x = x
 

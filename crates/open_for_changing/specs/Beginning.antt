@@ -24,7 +24,7 @@ use Rattle.command_words.specs.declared.commands.Change.{Change}
 
 -- what follows where the work folder can be made ready, and else the answer is why it can't
 abbrev pub OfWork : View → Path → Answer → Type 0 → Type 0
-OfWork v at answer next = (entered : work.Answer) × EntersAs v at entered × MatchResult entered (λ done. next) (λ fault. answer ≡ of_work at fault)
+OfWork v at answer next = (entered : work.Looked) × EntersAs v at entered × MatchResult entered (λ done. next) (λ fault. answer ≡ of_work at fault)
 
 -- The tests of a command that changes an opened vault, behind that of overlapping folders, by what is seen at first: what follows of
 -- the vault, where all pass.

@@ -9,7 +9,7 @@ use Rattle.vault_read.specs.declared.fault.LoadFault.{LoadFault}
 use Rattle.vault_read.specs.declared.fault.LoadFault.TheVariants as load
 use Rattle.vault_read.specs.declared.looking.SmallFile.TheVariants.{Missing, Other, TooLarge, Whole}
 use Rattle.vault_read.specs.Looking.{small_file}
-use Rattle.vault_read.specs.Loading.{Refuses}
+use Rattle.vault_read.specs.Loading.{RefusesLoading}
 use Rattle.vault_read.specs.Laws.{HaveOneAnswer}
 use Rattle.vault_spec.specs.Vault.{Vault, Loads, Either}
 use Rattle.vault_spec.specs.Vault as vault
@@ -81,7 +81,7 @@ pass_then at Special shown P Q f x = x
 pass_then at (FileOf bytes) shown P Q f x =
     either (P (passphrase_in bytes)) (Q (passphrase_in bytes)) (shown ≡ refused (Limit limit.PassFile)) (nat_le (length bytes) 2048) (f (passphrase_in bytes)) x
 
-pub vault_by : (root : Path) (shown : Shown) (P Q : Vault → Type 0) (loaded : vault.Answer) → ((vault : Vault) → P vault → Q vault)
+pub vault_by : (root : Path) (shown : Shown) (P Q : Vault → Type 0) (loaded : vault.Loaded) → ((vault : Vault) → P vault → Q vault)
     → MatchResult loaded P (λ refusal. shown ≡ refused (answer_to_refusal root refusal)) → MatchResult loaded Q (λ refusal. shown ≡ refused (answer_to_refusal root refusal))
 vault_by root shown P Q (Ok vault) f x = f vault x
 vault_by root shown P Q (Err refusal) f x = x
@@ -122,7 +122,7 @@ pass_refused v root pass answer =
     unless_then (OfPassFile pass (v pass) (refused answer) (λ phrase. ⊥)) (OfOpened v root pass (refused answer) (λ vault. ⊥)) answer (pass_then pass (v pass) (refused answer) (λ phrase. ⊥) (λ phrase. OfVault v root phrase (refused answer) (λ vault. ⊥)) (λ phrase none. absurd none))
 
 -- a refusal to load, as it is answered
-loading_refused : (root : Path) (v : View) (phrase : List ℕ) (fault : LoadFault) → Refuses root (Loads (under root v) phrase) fault
+loading_refused : (root : Path) (v : View) (phrase : List ℕ) (fault : LoadFault) → RefusesLoading root (Loads (under root v) phrase) fault
     → Unless (of_load root fault) (OfVault v root phrase (refused (of_load root fault)) (λ vault. ⊥))
 loading_refused root v phrase (load.Missing at) refuses =
     inr (inr (Err (vault.Missing refuses.0), refuses.2, ap (λ p. refused (NotFound (named.Folder p))) refuses.1))
@@ -138,7 +138,7 @@ loading_refused root v phrase load.BadSignature refuses = inr (inr (Err vault.Ba
 loading_refused root v phrase load.Failed refuses = inl refl
 loading_refused root v phrase load.NoMemory refuses = inr (inl refl)
 
-pub load_refused : (root pass : Path) (v : View) (phrase : List ℕ) (fault : LoadFault) (answer : Answer) → IsPhrase (v pass) phrase → Refuses root (Loads (under root v) phrase) fault
+pub load_refused : (root pass : Path) (v : View) (phrase : List ℕ) (fault : LoadFault) (answer : Answer) → IsPhrase (v pass) phrase → RefusesLoading root (Loads (under root v) phrase) fault
     → (answer ≡ OutOfMemory) ⊎ (answer ≡ of_load root fault) → RefusesOpening v root pass answer
 load_refused root pass v phrase fault answer is refuses (inl memory) = inr (inl memory)
 load_refused root pass v phrase fault answer is refuses (inr same) =
@@ -159,7 +159,7 @@ module _ (R : Shown → Shown → Type 0) (of_one : (a b : Shown) → a ≡ b �
       by true x y = f (passphrase_in bytes) x y
       by false x y = of_one a b (x ∙ sym y)
 
-  vault_alike : (root : Path) (a b : Shown) (P Q : Vault → Type 0) (loaded : vault.Answer) → ((vault : Vault) → P vault → Q vault → R a b)
+  vault_alike : (root : Path) (a b : Shown) (P Q : Vault → Type 0) (loaded : vault.Loaded) → ((vault : Vault) → P vault → Q vault → R a b)
       → MatchResult loaded P (λ refusal. a ≡ refused (answer_to_refusal root refusal)) → MatchResult loaded Q (λ refusal. b ≡ refused (answer_to_refusal root refusal)) → R a b
   vault_alike root a b P Q (Ok vault) f x y = f vault x y
   vault_alike root a b P Q (Err refusal) f x y = of_one a b (x ∙ sym y)

@@ -40,7 +40,7 @@ answer_to_refusal root vault.BadSignature = Refused (root ++ vault_file) refusal
 -- what follows of the vault that the root and the passphrase are
 abbrev pub OfVault : View → Path → List ℕ → Shown → (Vault → Type 0) → Type 0
 OfVault v root pass shown next =
-    (loaded : vault.Answer) × Loads (under root v) pass loaded
+    (loaded : vault.Loaded) × Loads (under root v) pass loaded
     × MatchResult loaded next (λ refusal. shown ≡ refused (answer_to_refusal root refusal))
 
 -- what follows of the vault that the root and the passphrase in a file are

@@ -23,7 +23,7 @@ use Rattle.vault_spec.specs.Format.{Format, file_bytes}
 use Rattle.vault_spec.specs.Standing.{File, standing}
 use Rattle.vault_spec.specs.Vault.{Vault, format_of}
 use Rattle.vault_spec.specs.declared.Lack.TheVariants as lacks
-use Rattle.reading_commands.specs.Cat.{OpensFile, ShowsContent, ShowsFile, answer_to_ending, is_of_finding, shown_reading}
+use Rattle.reading_commands.specs.Cat.{OpensFile, ShowsContent, ShowsContentFile, answer_to_ending, is_of_finding, shown_reading}
 use Rattle.reading_commands.specs.Faults.{of_cat}
 use Rattle.open_for_reading.specs.Faults.{of_find}
 use Rattle.reading_commands.specs.Finding.{answer_to_finding}
@@ -48,7 +48,7 @@ find_refused root found (find.NoFolder at) refuses = inr (inr (spec.Locked refus
 find_refused root found find.Failed refuses = inl refl
 find_refused root found find.NoMemory refuses = inr (inl refl)
 
-by_bytes : (keys : Keys) (at : Path) (bytes : Option (List ℕ)) (a b : Shown) → ShowsFile keys at bytes a → ShowsFile keys at bytes b → a ≡ b
+by_bytes : (keys : Keys) (at : Path) (bytes : Option (List ℕ)) (a b : Shown) → ShowsContentFile keys at bytes a → ShowsContentFile keys at bytes b → a ≡ b
 by_bytes keys at None a b x y = absurd x
 by_bytes keys at (Some bytes) a b x y = x ∙ sym y
 
@@ -60,12 +60,12 @@ content_is_one law target v a b =
     follows : Shown → Vault → Type 0
     follows shown vault =
         MatchResult (content_at (format_of vault) target.vault v target.path)
-        (λ at. ShowsFile (format_of vault).content (target.vault ++ at) (file_bytes (v (target.vault ++ at))) shown)
+        (λ at. ShowsContentFile (format_of vault).content (target.vault ++ at) (file_bytes (v (target.vault ++ at))) shown)
         (λ refusal. shown ≡ refused (answer_to_finding target.vault refusal))
 
     by_found : (vault : Vault) (found : Result Path Refusal)
-        → MatchResult found (λ at. ShowsFile (format_of vault).content (target.vault ++ at) (file_bytes (v (target.vault ++ at))) a) (λ refusal. a ≡ refused (answer_to_finding target.vault refusal))
-        → MatchResult found (λ at. ShowsFile (format_of vault).content (target.vault ++ at) (file_bytes (v (target.vault ++ at))) b) (λ refusal. b ≡ refused (answer_to_finding target.vault refusal))
+        → MatchResult found (λ at. ShowsContentFile (format_of vault).content (target.vault ++ at) (file_bytes (v (target.vault ++ at))) a) (λ refusal. a ≡ refused (answer_to_finding target.vault refusal))
+        → MatchResult found (λ at. ShowsContentFile (format_of vault).content (target.vault ++ at) (file_bytes (v (target.vault ++ at))) b) (λ refusal. b ≡ refused (answer_to_finding target.vault refusal))
         → a ≡ b
     by_found vault (Ok at) x y = by_bytes (format_of vault).content (target.vault ++ at) (file_bytes (v (target.vault ++ at))) a b x y
     by_found vault (Err refusal) x y = x ∙ sym y
@@ -80,13 +80,13 @@ shows_content : FilesAreFound → (target : Target) (v : View) (vault : Vault) (
 shows_content files target v vault at reading opens is =
     opened_gives v target.vault target.pass (shown_reading at reading)
     (λ vault. MatchResult (content_at (format_of vault) target.vault v target.path)
-    (λ p. ShowsFile (format_of vault).content (target.vault ++ p) (file_bytes (v (target.vault ++ p))) (shown_reading at reading))
+    (λ p. ShowsContentFile (format_of vault).content (target.vault ++ p) (file_bytes (v (target.vault ++ p))) (shown_reading at reading))
     (λ refusal. shown_reading at reading ≡ refused (answer_to_finding target.vault refusal)))
     vault opens
-    (subst (λ r. MatchResult r (λ p. ShowsFile (format_of vault).content (target.vault ++ p) (file_bytes (v (target.vault ++ p))) (shown_reading at reading))
+    (subst (λ r. MatchResult r (λ p. ShowsContentFile (format_of vault).content (target.vault ++ p) (file_bytes (v (target.vault ++ p))) (shown_reading at reading))
     (λ refusal. shown_reading at reading ≡ refused (answer_to_finding target.vault refusal))) (sym (ap (file_found target.path) (files (format_of vault) (under target.vault v) target.path is.rest is.stands)))
-    (subst (λ p. ShowsFile (format_of vault).content p (file_bytes (v p)) (shown_reading at reading)) is.place
-    (subst (λ x. ShowsFile (format_of vault).content at (file_bytes x) (shown_reading at reading)) (sym is.file) (ap (shown_reading at) is.gives))))
+    (subst (λ p. ShowsContentFile (format_of vault).content p (file_bytes (v p)) (shown_reading at reading)) is.place
+    (subst (λ x. ShowsContentFile (format_of vault).content at (file_bytes x) (shown_reading at reading)) (sym is.file) (ap (shown_reading at) is.gives))))
 
 -- a content that isn't found
 refuses_content : (target : Target) (v : View) (vault : Vault) (fault : FindFault) → Opens v target.vault target.pass vault
@@ -101,10 +101,10 @@ refuses_content target v vault fault opens refuses =
     shown_by (inr (inr is)) =
         inr (inr (opened_gives v target.vault target.pass (refused (of_find fault))
         (λ vault. MatchResult (content_at (format_of vault) target.vault v target.path)
-        (λ p. ShowsFile (format_of vault).content (target.vault ++ p) (file_bytes (v (target.vault ++ p))) (refused (of_find fault)))
+        (λ p. ShowsContentFile (format_of vault).content (target.vault ++ p) (file_bytes (v (target.vault ++ p))) (refused (of_find fault)))
         (λ refusal. refused (of_find fault) ≡ refused (answer_to_finding target.vault refusal)))
         vault opens
-        (subst (λ r. MatchResult r (λ p. ShowsFile (format_of vault).content (target.vault ++ p) (file_bytes (v (target.vault ++ p))) (refused (of_find fault)))
+        (subst (λ r. MatchResult r (λ p. ShowsContentFile (format_of vault).content (target.vault ++ p) (file_bytes (v (target.vault ++ p))) (refused (of_find fault)))
         (λ refusal. refused (of_find fault) ≡ refused (answer_to_finding target.vault refusal))) (sym is.1) (ap refused is.2))))
 
 -- the answer to how reading and writing a content ended
@@ -195,11 +195,11 @@ written_or_cut law target answer told told' taken taken' reads v is opens = elim
   where
     by_found : Shown → Vault → Result Path Refusal → Type 0
     by_found shown vault found =
-        MatchResult found (λ at. ShowsFile (format_of vault).content (target.vault ++ at) (file_bytes (v (target.vault ++ at))) shown)
+        MatchResult found (λ at. ShowsContentFile (format_of vault).content (target.vault ++ at) (file_bytes (v (target.vault ++ at))) shown)
         (λ refusal. shown ≡ refused (answer_to_finding target.vault refusal))
 
     shown_whole : (shown : Shown) → ShowsContent target v shown → shown ≡ shown_reading (target.vault ++ opens.at) (limited_reading (format_of opens.vault).content opens.bytes)
     shown_whole shown shows =
-        subst (λ bytes. ShowsFile (format_of opens.vault).content (target.vault ++ opens.at) bytes shown) opens.stored
+        subst (λ bytes. ShowsContentFile (format_of opens.vault).content (target.vault ++ opens.at) bytes shown) opens.stored
         (subst (by_found shown opens.vault) opens.found
         (opened_is law v target.vault target.pass shown (λ vault. by_found shown vault (content_at (format_of vault) target.vault v target.path)) opens.vault opens.opens shows))

@@ -29,16 +29,16 @@ abbrev pub shown_reading : Path → Reading → Shown
 shown_reading at reading = record { pieces = reading.chunks; answer = answer_to_ending at reading.ending }
 
 -- the chunks of the content file that is found, behind the root; a file always is where one stands
-abbrev pub ShowsFile : Keys → Path → Option (List ℕ) → Shown → Type 0
-ShowsFile keys at None shown = ⊥
-ShowsFile keys at (Some bytes) shown = shown ≡ shown_reading at (limited_reading keys bytes)
+abbrev pub ShowsContentFile : Keys → Path → Option (List ℕ) → Shown → Type 0
+ShowsContentFile keys at None shown = ⊥
+ShowsContentFile keys at (Some bytes) shown = shown ≡ shown_reading at (limited_reading keys bytes)
 
 -- what `cat` shows
 abbrev pub ShowsContent : Target → View → Shown → Type 0
 ShowsContent target v shown =
     OfOpened v target.vault target.pass shown (λ vault.
     MatchResult (content_at (format_of vault) target.vault v target.path)
-    (λ at. ShowsFile (format_of vault).content (target.vault ++ at) (file_bytes (v (target.vault ++ at))) shown)
+    (λ at. ShowsContentFile (format_of vault).content (target.vault ++ at) (file_bytes (v (target.vault ++ at))) shown)
     (λ refusal. shown ≡ refused (answer_to_finding target.vault refusal)))
 
 -- whether no vault was opened or no file found, which is known before anything is written

@@ -98,7 +98,7 @@ pub record AreHeldAlike : Type 0 where
   pub plan : TellsTree
   pub meet : NoneMeet
   pub held : (names : NameMap) (m t : Tree) → IsMapped names m t → HasNoBroken m → IsHeldIn names m t
-  pub holds : (v : View) (names : NameMap) (a b : trees.Side) → IsMappedWalkOf names v a → IsWalkOf v b → IsHeldIn names (tree_of v a) (tree_of v b) → HoldsAllOrTooLong (match_of v a b)
+  pub holds : (v : View) (names : NameMap) (a b : trees.PlannedVault) → IsMappedWalkOf names v a → IsWalkOf v b → IsHeldIn names (tree_of v a) (tree_of v b) → HoldsAllOrTooLong (match_of v a b)
 
 module _ (one : HaveOneAnswer) (cited : AreHeldAlike) (g : Migration) (from_pass to_pass : List ℕ) (v : View) (opened : AreOpenedBy g from_pass to_pass v) (done : IsDone g v) (limits : PassesNoLimit g v) where
   held_in : IsHeldIn g.names (tree_at g.source v) (tree_at g.target v)

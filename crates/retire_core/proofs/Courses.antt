@@ -28,7 +28,7 @@ use Rattle.migration_spec.proofs.Tellings.{AreSound, folders_of}
 use Rattle.retire_core.proofs.Cleared.{inside_work, isnt_eq}
 use Rattle.retire_core.proofs.Going.{retiring_stays}
 use Rattle.retire_core.specs.Clearing.{Clears, ClearsOnly, IsGone, IsInOrder, MovesAway, MovesHeld, MovesHeldOnly, MovesOnly}
-use Rattle.retire_core.specs.Guarding.{ComesTo, IsAtRest, KeepsFromRest, KeepsRetiring}
+use Rattle.retire_core.specs.Guarding.{ComesToRetiring, IsAtRest, KeepsFromRest, KeepsRetiring}
 use Rattle.retire_core.specs.declared.fault.RetireFault.{RetireFault}
 use Rattle.retire_core.specs.declared.retiring.Retired.{Retired}
 use Rattle.retire_core.specs.Retiring.{HasRetired, IsHeld, MayEmpty, Removes, RemovesOnly, Retiring, Touches, TouchesOnly}
@@ -158,7 +158,7 @@ removes_cleared r (Some a) (Some b) None apart sound done gone unmoved moves cle
 
 -- ---- guarded
 
-pub rest_then : RootsAreAlike → ImagesShow → (g : Migration) (t u w : Option Told) → KeepsFromRest g t u → ComesTo g t u → KeepsRetiring g u w → KeepsFromRest g t w
+pub rest_then : RootsAreAlike → ImagesShow → (g : Migration) (t u w : Option Told) → KeepsFromRest g t u → ComesToRetiring g t u → KeepsRetiring g u w → KeepsFromRest g t w
 rest_then alike shown g (Some a) (Some b) (Some c) keeps comes goes = λ at. went_on (Guarded g) (λ s e. Unit {0}) a b c (keeps at) (retiring_stays alike shown g b c (goes (comes at)))
 rest_then alike shown g None None None keeps comes goes = tt
 rest_then alike shown g None (Some b) w keeps comes goes = absurd keeps

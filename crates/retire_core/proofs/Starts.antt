@@ -18,7 +18,7 @@ use Rattle.migration_spec.specs.Guard as guard
 use Rattle.migration_spec.specs.Guard.{Migration, Building, Case, Gone, HasJournal, LastJournal, NotBegun, Retired, Stands}
 use Rattle.retire_core.proofs.RetiredTables.{rest_done, rest_retired, rest_seen}
 use Rattle.retire_core.specs.Clearing.{MovesHeldOnly}
-use Rattle.retire_core.specs.Guarding.{ComesFromDone, ComesTo, IsAtRest, IsDoneAtRest, KeepsDone, KeepsFromRest, IsRetiring}
+use Rattle.retire_core.specs.Guarding.{ComesFromDone, ComesToRetiring, IsAtRest, IsDoneAtRest, KeepsDone, KeepsFromRest, IsRetiring}
 use Rattle.retire_core.specs.Retiring.{Retiring}
 use Rattle.migration_spec.specs.Alone.{StaysGuarded}
 
@@ -63,10 +63,10 @@ source_is : (g : Migration) (journal : Journal) (a : Told) → IsKnown g journal
 source_is g journal a known at = names_source known.one_journal g a.state journal at known.is (known.stands (seen a.state) refl)
 
 -- where the source isn't there, it is retired
-pub comes_missing : (g : Migration) (journal : Journal) (t u : Option Told) → IsKnown g journal t → u ≡ t → IfSeen t (λ v. v journal.source ≡ NoEntry) → ComesTo g t u
-comes_missing g journal t u known same none = subst (λ w. ComesTo g t w) (sym same) (at_same t known none)
+pub comes_missing : (g : Migration) (journal : Journal) (t u : Option Told) → IsKnown g journal t → u ≡ t → IfSeen t (λ v. v journal.source ≡ NoEntry) → ComesToRetiring g t u
+comes_missing g journal t u known same none = subst (λ w. ComesToRetiring g t w) (sym same) (at_same t known none)
   where
-    at_same : (o : Option Told) → IsKnown g journal o → IfSeen o (λ v. v journal.source ≡ NoEntry) → ComesTo g o o
+    at_same : (o : Option Told) → IsKnown g journal o → IfSeen o (λ v. v journal.source ≡ NoEntry) → ComesToRetiring g o o
     at_same None known none = tt
     at_same (Some a) known none = λ at. rest_retired g a.state at (ap (seen a.state) (sym (source_is g journal a known at)) ∙ none (seen a.state) refl)
 
@@ -90,7 +90,7 @@ pub rest_by_done : (g : Migration) (journal : Journal) (r : Retiring) (t u : Opt
 rest_by_done g = by_done (StaysGuarded g) g
 
 pub comes_by_done : (g : Migration) (journal : Journal) (r : Retiring) (t u : Option Told) → IsKnown g journal t → IfSeen t (λ v. v journal.source ≢ NoEntry) → MovesHeldOnly r t u
-    → (g.source.root ≡ journal.source → ComesFromDone g t u) → ComesTo g t u
+    → (g.source.root ≡ journal.source → ComesFromDone g t u) → ComesToRetiring g t u
 comes_by_done g = by_done (λ a b. IsRetiring g b.state) g
 
 -- ---- a kind that was asked for

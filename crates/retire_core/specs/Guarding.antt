@@ -44,8 +44,8 @@ abbrev pub KeepsRetiring : Migration → Option Told → Option Told → Type 0
 KeepsRetiring g = FromTo (λ a b. IsRetiring g a.state → Went (IsRetiring g) (λ s e. Unit {0}) a b)
 
 -- it is so after a call
-abbrev pub ComesTo : Migration → Option Told → Option Told → Type 0
-ComesTo g = FromTo (λ a b. IsAtRest g a.state → IsRetiring g b.state)
+abbrev pub ComesToRetiring : Migration → Option Told → Option Told → Type 0
+ComesToRetiring g = FromTo (λ a b. IsAtRest g a.state → IsRetiring g b.state)
 
 abbrev pub ComesFromDone : Migration → Option Told → Option Told → Type 0
 ComesFromDone g = FromTo (λ a b. IsDoneAtRest g a.state → IsRetiring g b.state)

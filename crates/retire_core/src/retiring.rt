@@ -13,7 +13,7 @@ ghost use Rattle.retire_core.specs.Causes.{IsOfFolder, PassesTests, ReadsDone, R
 ghost use Rattle.retire_core.specs.Clearing.{IsGone, IsInOrder, MovesHeldOnly, MovesOnly};
 ghost use Rattle.retire_core.specs.Completing.{CanRetire};
 ghost use Rattle.retire_core.specs.Faults.{Blamed, IsLaterFault, IsOfRemoval, IsRetireFault};
-ghost use Rattle.retire_core.specs.Guarding.{ComesFromDone, ComesTo, KeepsDone, KeepsFromRest};
+ghost use Rattle.retire_core.specs.Guarding.{ComesFromDone, ComesToRetiring, KeepsDone, KeepsFromRest};
 ghost use Rattle.retire_core.specs.Retiring.{HasRetired, RemovesOnly, TouchesOnly, retiring_by};
 
 use crate::clearing::clear;
@@ -161,7 +161,7 @@ fn put_away<F: Folder>(
     requires stands { IfSeen (F.told folder.old) (λ v. StandsIn work.now journal.now v) }
     requires order { IfSeen (F.told folder.old) (λ v. IsInOrder v work.now) }
     ensures guard { (g : Migration) → g.work ≡ work.now → KeepsFromRest g (F.told folder.old) (F.told folder.new) }
-    ensures comes { OnOk result ((g : Migration) → g.work ≡ work.now → ComesTo g (F.told folder.old) (F.told folder.new)) }
+    ensures comes { OnOk result ((g : Migration) → g.work ≡ work.now → ComesToRetiring g (F.told folder.old) (F.told folder.new)) }
     ensures moves { MovesHeldOnly (retiring_by work.now source_pass.now target_pass.now journal.now) (F.told folder.old) (F.told folder.new) }
     ensures unmoved { IfSeen (F.told folder.old) (λ v. v journal.now.source ≡ NoEntry → F.told folder.new ≡ F.told folder.old) }
     ensures gone { OnOk result (IsGone journal.now.source (F.told folder.new)) }

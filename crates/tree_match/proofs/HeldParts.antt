@@ -14,7 +14,7 @@ use Rattle.tree_match.proofs.ToldTrees.{TellsTree, opens_content, opens_director
 use Rattle.tree_match.proofs.WholeContents.{AreWhole, whole_and_same}
 use Rattle.tree_match.specs.Comparing.{Outcome, Is, Stops, compared, content_at}
 use Rattle.tree_match.specs.Matching.{content_held, first_further, held_as, held_by, item_with}
-use Rattle.tree_match.specs.Trees.{Side, HoldsAllBy, AsSame, AndFurther, match_of}
+use Rattle.tree_match.specs.Trees.{PlannedVault, HoldsAllBy, AsSame, AndFurther, match_of}
 use Rattle.tree_match.specs.declared.answer.Match.{Match}
 use Rattle.tree_match.specs.declared.answer.Match.TheVariants.{Same, Contained, Differs}
 
@@ -31,7 +31,7 @@ same_content (Is true) e = refl
 same_content (Is false) e = cc e
 same_content (Stops at ending) e = cc e
 
-module _ (ends : WholeFilesEnd) (v : View) (a b : Side) (t u : Tree) (tells_a : TellsTree v a t) (tells_b : TellsTree v b u) where
+module _ (ends : WholeFilesEnd) (v : View) (a b : PlannedVault) (t u : Tree) (tells_a : TellsTree v a t) (tells_b : TellsTree v b u) where
   held_alike : (x o : Planned) → Contains a.items x → Contains b.items o → o.path ≡ x.path
       → held_as x.node o.node (compared (content_at (format_of a.vault).content v x.at) (content_at (format_of b.vault).content v o.at)) ≡ Is None → OpenAlike t u x.path
   held_alike x o in_a in_b same held = by x.node o.node refl refl held

@@ -20,7 +20,7 @@ use Rattle.vault_walk.specs.Surveyed.{placed}
 use Rattle.tree_match.proofs.Differing.{holds_none, holds_one, differs_one, further_found, further_none}
 use Rattle.tree_match.specs.Comparing.{Outcome, Is, Stops}
 use Rattle.tree_match.specs.Matching.{IsMatchable, by_item, first_differing, first_further, item_with}
-use Rattle.tree_match.specs.Trees.{Side, IsWalkOf, tree_of}
+use Rattle.tree_match.specs.Trees.{PlannedVault, IsWalkOf, tree_of}
 use Rattle.tree_match.specs.declared.answer.How.{How}
 use Rattle.tree_match.specs.declared.answer.Match.{Match}
 use Rattle.tree_match.specs.declared.answer.Match.TheVariants.{Same, Contained, Differs}
@@ -101,26 +101,26 @@ abbrev pub PlansAreTheTree : Type 0
 PlansAreTheTree = (vault : Vault) (v : View) (plan : List Planned) → IsPlan (format_of vault) v plan → AreItems (tree (format_of vault) v) (paths_of plan)
 
 -- an item of a plan stands so
-pub planned : (v : View) (a : Side) → IsWalkOf v a → (x : Planned) → Contains a.items x → (y : Planned) × (placed a.root y ≡ x) × IsPlanned (format_of a.vault) (under a.root v) y
+pub planned : (v : View) (a : PlannedVault) → IsWalkOf v a → (x : Planned) → Contains a.items x → (y : Planned) × (placed a.root y ≡ x) × IsPlanned (format_of a.vault) (under a.root v) y
 planned v a walk x among =
     let from : (y : Planned) × Contains walk.plan y × (placed a.root y ≡ x) = mapped_from (placed a.root) walk.plan x (subst (λ (xs : List Planned). Contains xs x) walk.items_are among) in
     (from.0, from.2, ((walk.is.items from.0).0 from.1).1)
 
 -- each item of the tree is in the plan
-pub in_plan : PlansAreTheTree → (v : View) (a : Side) → IsWalkOf v a → (path : plain.Path) → path ≢ [] → tree_of v a path ≢ NoItem → (x : Planned) × Contains a.items x × (x.path ≡ path)
+pub in_plan : PlansAreTheTree → (v : View) (a : PlannedVault) → IsWalkOf v a → (path : plain.Path) → path ≢ [] → tree_of v a path ≢ NoItem → (x : Planned) × Contains a.items x × (x.path ≡ path)
 in_plan plans v a walk path named there =
     let items : AreItems (tree_of v a) (paths_of walk.plan) = plans a.vault (under a.root v) walk.plan walk.is in
     let from : (y : Planned) × Contains walk.plan y × (y.path ≡ path) = mapped_from (λ (item : Planned). item.path) walk.plan path ((items.items path).1 (named, there)) in
     (placed a.root from.0, subst (λ (xs : List Planned). Contains xs (placed a.root from.0)) (sym walk.items_are) (contains_mapped (placed a.root) walk.plan from.0 from.1), from.2)
 
-pub file_there : FilesAreThere → (v : View) (a : Side) → IsWalkOf v a → (x : Planned) → Contains a.items x → x.node ≡ node.File → ShowsFile v x.at
+pub file_there : FilesAreThere → (v : View) (a : PlannedVault) → IsWalkOf v a → (x : Planned) → Contains a.items x → x.node ≡ node.File → ShowsFile v x.at
 file_there files v a walk x among is_file =
     let p : (y : Planned) × (placed a.root y ≡ x) × IsPlanned (format_of a.vault) (under a.root v) y = planned v a walk x among in
     subst (λ (at : folder.Path). ShowsFile v at) (ap (λ (z : Planned). z.at) p.1)
     (files a.vault (under a.root v) p.0.path p.0.at
     (file_stands (standing (format_of a.vault) (under a.root v) p.0.path) p.0.at (p.2.node ∙ ap (λ (z : Planned). Some z.node) p.1 ∙ ap Some is_file) p.2.place))
 
-pub can_match : FilesAreThere → (v : View) (a : Side) → IsWalkOf v a → IsMatchable v a.items
+pub can_match : FilesAreThere → (v : View) (a : PlannedVault) → IsWalkOf v a → IsMatchable v a.items
 can_match files v a walk = record {
   ordered = placed_in_order a.root walk.plan a.items walk.items_are walk.is.ordered;
   files = file_there files v a walk;

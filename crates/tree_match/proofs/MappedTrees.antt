@@ -10,7 +10,7 @@ use Rattle.std.specs.List.{IsDistinct}
 use Rattle.std.specs.declared.cmp.Ordering.TheVariants.{Less}
 use Rattle.folder_spec.specs.Seen.{ShowsFile}
 use Rattle.folder_spec.specs.View.{View}
-use Rattle.vault_spec.specs.Mapped.{IsHeldIn, IsMappedItem, IsPartOf, IsWhole, StaysApart}
+use Rattle.vault_spec.specs.Mapped.{IsHeldIn, IsMappedItem, IsPartOfMapped, IsWhole, StaysApart}
 use Rattle.plain_tree.specs.Mapped.{mapped_path}
 use Rattle.plain_tree.specs.Names as plain
 use Rattle.plain_tree.specs.Order.{path_cmp, path_eq}
@@ -27,7 +27,7 @@ use Rattle.tree_match.proofs.SameTrees.{some_with}
 use Rattle.tree_match.proofs.ToldTrees.{TellsTree, opens_as}
 use Rattle.tree_match.specs.Mapping.{AreFirstToMeet, IsMappedPlan, mapped_item}
 use Rattle.tree_match.specs.Matching.{item_with}
-use Rattle.tree_match.specs.Trees.{Side, IsMappedWalkOf, side_with, tree_of}
+use Rattle.tree_match.specs.Trees.{PlannedVault, IsMappedWalkOf, with_items, tree_of}
 
 -- ---- items with paths of their own
 
@@ -81,12 +81,12 @@ mapped_apart names own items is i j d before few same =
 
 -- ---- the tree that items tell
 
-abbrev opened_found : View → Side → Option Planned → Opened
+abbrev opened_found : View → PlannedVault → Option Planned → Opened
 opened_found v a None = NoItem
 opened_found v a (Some x) = opens_as v a x
 
 -- what opens at the paths of the items
-abbrev pub tree_by : View → Side → Tree
+abbrev pub tree_by : View → PlannedVault → Tree
 tree_by v a path = opened_found v a (item_with path a.items)
 
 -- it has each item of the first tree at its mapped path, and no others; of the root it tells nothing
@@ -102,7 +102,7 @@ named_there : (names : NameMap) (path : plain.Path) → path ≢ [] → mapped_p
 named_there names [] named = λ e. named refl
 named_there names (name ∷ path) named = λ e. cc e
 
-module _ (v : View) (names : NameMap) (a : Side) (walk : IsMappedWalkOf names v a) (tells : TellsTree v (side_with a walk.own) (tree_of v a)) where
+module _ (v : View) (names : NameMap) (a : PlannedVault) (walk : IsMappedWalkOf names v a) (tells : TellsTree v (with_items a walk.own) (tree_of v a)) where
   -- an item is one of the vault's own, at its mapped path
   from_own : (x : Planned) → Contains a.items x → (y : Planned) × Contains walk.own y × (mapped_item names y ≡ x)
   from_own x among = mapped_from (mapped_item names) walk.own x (Contains-permutation a.items (map (mapped_item names) walk.own) x (IsPermutation-sym (map (mapped_item names) walk.own) a.items walk.mapped.same) among)
@@ -191,12 +191,12 @@ module _ (names : NameMap) (m u t : Tree) (is : MapsItems names m u) where
       let alike = held x.from below (λ none. there (sym x.is ∙ none)) in
       (sym x.is ∙ sym alike.0 ∙ ap t x.comes, subst IsWhole x.is alike.1)
 
-  pub part_from : IsPart t u → IsPartOf names t m
+  pub part_from : IsPart t u → IsPartOfMapped names t m
   part_from part path named there =
       let alike = part path named there in
       (subst (IsMappedItem names m path) (sym alike.0) (is.only path (λ none. there (alike.0 ∙ none))), alike.1)
 
-  pub part_to : IsPartOf names t m → IsPart t u
+  pub part_to : IsPartOfMapped names t m → IsPart t u
   part_to part path named there =
       let x = (part path named there).0 in
       let below : x.from ≢ [] = named_from names x.from (λ e. named (sym x.comes ∙ e)) in
@@ -204,7 +204,7 @@ module _ (names : NameMap) (m u t : Tree) (is : MapsItems names m u) where
 
 -- ---- items that would meet
 
-pub none_meet : (v : View) (names : NameMap) (a : Side) → IsOrdered a.items → TellsTree v a (tree_of v a) → StaysApart names (tree_of v a) → (one other : plain.Path) → ¬ AreFirstToMeet names a.items one other
+pub none_meet : (v : View) (names : NameMap) (a : PlannedVault) → IsOrdered a.items → TellsTree v a (tree_of v a) → StaysApart names (tree_of v a) → (one other : plain.Path) → ¬ AreFirstToMeet names a.items one other
 none_meet v names a ordered tells apart one other meet =
     let first : Contains a.items meet.earlier = subst (λ (xs : List Planned). Contains xs meet.earlier) (sym meet.parts) (Contains-append_left meet.front (meet.later ∷ meet.behind) meet.earlier meet.among) in
     let second : Contains a.items meet.later = subst (λ (xs : List Planned). Contains xs meet.later) (sym meet.parts) (Contains-append_right meet.front (meet.later ∷ meet.behind) meet.later (0, omega arith, refl)) in

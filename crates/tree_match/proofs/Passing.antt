@@ -17,7 +17,7 @@ use Rattle.plain_tree.specs.declared.name_map.NameMap.{NameMap}
 use Rattle.tree_match.proofs.HeldTrees.{IsNoDifference, planned}
 use Rattle.tree_match.specs.Comparing.{Answers, Is, Outcome, Stops, content_at}
 use Rattle.tree_match.specs.Mapping.{AreFirstToMeet, IsMappedPlan, MapsTo, is_named, mapped_item}
-use Rattle.tree_match.specs.Trees.{AndFurther, AsSame, HoldsAllBy, HoldsAllOrTooLong, HoldsOr, IsMappedWalkOf, IsWalkOf, Side, side_of, tree_of}
+use Rattle.tree_match.specs.Trees.{AndFurther, AsSame, HoldsAllBy, HoldsAllOrTooLong, HoldsOr, IsMappedWalkOf, IsWalkOf, PlannedVault, side_of, tree_of}
 use Rattle.tree_match.specs.declared.answer.How.{How}
 use Rattle.tree_match.specs.declared.answer.MapFault.{MapFault}
 use Rattle.tree_match.specs.declared.answer.MapFault.TheVariants as map_
@@ -41,15 +41,15 @@ use Rattle.vault_walk.specs.declared.plan.Plan.{Plan}
 
 -- a walk tells the tree
 abbrev pub TellsTree : Type 0
-TellsTree = (v : View) (a : Side) → IsWalkOf v a → IsPlanOf (tree_of v a) a.items
+TellsTree = (v : View) (a : PlannedVault) → IsWalkOf v a → IsPlanOf (tree_of v a) a.items
 
 -- no two items come to one path where a walk at mapped paths is one
 abbrev pub MappedStayApart : Type 0
-MappedStayApart = (v : View) (names : NameMap) (a : Side) → IsMappedWalkOf names v a → StaysApart names (tree_of v a)
+MappedStayApart = (v : View) (names : NameMap) (a : PlannedVault) → IsMappedWalkOf names v a → StaysApart names (tree_of v a)
 
 -- of a tree of which no two items come to one path none meet
 abbrev pub NoneMeet : Type 0
-NoneMeet = (v : View) (names : NameMap) (a : Side) (one other : plain.Path) → IsWalkOf v a → StaysApart names (tree_of v a) → ¬ AreFirstToMeet names a.items one other
+NoneMeet = (v : View) (names : NameMap) (a : PlannedVault) (one other : plain.Path) → IsWalkOf v a → StaysApart names (tree_of v a) → ¬ AreFirstToMeet names a.items one other
 
 -- ---- mapping
 
@@ -82,7 +82,7 @@ map_met Chance memory names items named apart (Err (map_.Meet one other)) maps =
 map_met Chance memory names items named apart (Err map_.NoMemory) maps = memory
 
 -- so a walk is mapped of a tree whose mapped names are allowed, and of which no two items come to one path
-pub walk_maps : TellsTree → NoneMeet → (Chance : MapFault → Type 0) → Chance map_.NoMemory → (names : NameMap) (f : Format) (v : View) (a : Side) → IsWalkOf v a → AllowsTree names f (tree_of v a)
+pub walk_maps : TellsTree → NoneMeet → (Chance : MapFault → Type 0) → Chance map_.NoMemory → (names : NameMap) (f : Format) (v : View) (a : PlannedVault) → IsWalkOf v a → AllowsTree names f (tree_of v a)
     → StaysApart names (tree_of v a) → (t : Result Plan MapFault) → MapsTo names a.items t → MatchResult t (λ plan. IsMappedPlan names a.items plan.items) Chance
 walk_maps tells meet Chance memory names f v a walk allowed apart =
     map_met Chance memory names a.items (each_named names f (tree_of v a) a.items (tells v a walk) allowed) (λ one other. meet v names a one other walk apart)

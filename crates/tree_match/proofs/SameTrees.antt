@@ -31,7 +31,7 @@ use Rattle.tree_match.proofs.HeldTrees.{found_with, stopped}
 use Rattle.tree_match.proofs.ToldTrees.{TellsTree, opens_file, opens_node}
 use Rattle.tree_match.specs.Comparing.{Outcome, Is, Stops, compared, content_at, content_of, bytes_found, is_cut}
 use Rattle.tree_match.specs.Matching.{content_held, first_differing, first_further, held_as, held_by, item_with}
-use Rattle.tree_match.specs.Trees.{Side, HoldsAllBy, AsSame, AndFurther, HoldsAllOrTooLong, IsSameOrTooLong, AreSame, IsTooLong, match_of}
+use Rattle.tree_match.specs.Trees.{PlannedVault, HoldsAllBy, AsSame, AndFurther, HoldsAllOrTooLong, IsSameOrTooLong, AreSame, IsTooLong, match_of}
 use Rattle.tree_match.specs.declared.answer.How.{How}
 use Rattle.tree_match.specs.declared.answer.Match.{Match}
 use Rattle.tree_match.specs.declared.answer.Match.TheVariants.{Same}
@@ -156,7 +156,7 @@ some_with path (z ∷ zs) o among is = by (path_eq z.path path) refl (some_with 
       | inr rest ↦ later rest is
     ]
 
-module _ (v : View) (a b : Side) (t u : Tree) (tells_a : TellsTree v a t) (tells_b : TellsTree v b u) (one : IsPart t u) where
+module _ (v : View) (a b : PlannedVault) (t u : Tree) (tells_a : TellsTree v a t) (tells_b : TellsTree v b u) (one : IsPart t u) where
   at_item : (x : Planned) → Contains a.items x → OpenAlike t u x.path
   at_item x among = one x.path (tells_a.items x among).0 (tells_a.items x among).1
 
@@ -220,7 +220,7 @@ all_tell held (x ∷ xs) each = by (held x) refl (each x (0, omega arith, refl))
     by _ is Told later = subst IsSameOrTooLong (sym (holds_one held (Is Same) x xs is)) later
     by _ is (Cut at) later = subst IsSameOrTooLong (sym (stopped held (Is Same) x xs at Wanting is)) (IsTooLong at)
 
-pub one_tree_matches : (v : View) (a b : Side) (t u : Tree) → TellsTree v a t → TellsTree v b u → IsPart t u → IsPart u t → IsSameOrTooLong (match_of v a b)
+pub one_tree_matches : (v : View) (a b : PlannedVault) (t u : Tree) → TellsTree v a t → TellsTree v b u → IsPart t u → IsPart u t → IsSameOrTooLong (match_of v a b)
 one_tree_matches v a b t u tells_a tells_b one other =
     let held : Planned → Outcome (Option How) = λ item. held_by (format_of a.vault).content (format_of b.vault).content v item (item_with item.path b.items) in
     let none : first_further a.items b.items ≡ Same = none_further a.items b.items (λ o among. let found = found_in_other v b a u t tells_b tells_a other o among in (found.0, found.1)) in
@@ -244,7 +244,7 @@ all_held held last all (x ∷ xs) each = by (held x) refl (each x (0, omega arit
     by _ is Told later = subst HoldsAllOrTooLong (sym (holds_one held (Is last) x xs is)) later
     by _ is (Cut at) later = subst HoldsAllOrTooLong (sym (stopped held (Is last) x xs at Wanting is)) (inr (at, refl))
 
-pub part_matches : (v : View) (a b : Side) (t u : Tree) → TellsTree v a t → TellsTree v b u → IsPart t u → HoldsAllOrTooLong (match_of v a b)
+pub part_matches : (v : View) (a b : PlannedVault) (t u : Tree) → TellsTree v a t → TellsTree v b u → IsPart t u → HoldsAllOrTooLong (match_of v a b)
 part_matches v a b t u tells_a tells_b one =
     all_held (λ item. held_by (format_of a.vault).content (format_of b.vault).content v item (item_with item.path b.items)) (first_further a.items b.items) (further_or_same a.items b.items) a.items
     (held_one v a b t u tells_a tells_b one)

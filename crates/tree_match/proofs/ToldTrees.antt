@@ -27,18 +27,18 @@ use Rattle.vault_walk.specs.Surveyed.{placed}
 use Rattle.tree_match.proofs.HeldTrees.{FilesAreThere, PlansAreTheTree, file_there, in_plan, planned}
 use Rattle.tree_match.proofs.WholeContents.{read_whole}
 use Rattle.tree_match.specs.Comparing.{bytes_found, content_at}
-use Rattle.tree_match.specs.Trees.{Side, IsWalkOf, tree_of}
+use Rattle.tree_match.specs.Trees.{PlannedVault, IsWalkOf, tree_of}
 
 -- what an item opens as, by its kind and its place
 abbrev pub opened_node : Keys → View → NodeKind → folder.Path → Opened
 opened_node keys v node.Dir at = Directory
 opened_node keys v node.File at = opened_file keys (file_bytes (v at))
 
-abbrev pub opens_as : View → Side → Planned → Opened
+abbrev pub opens_as : View → PlannedVault → Planned → Opened
 opens_as v a x = opened_node (format_of a.vault).content v x.node x.at
 
 -- The items tell a tree: they are its items but for the root, and each opens in it. A file stands where one is a file.
-pub record TellsTree (v : View) (a : Side) (t : Tree) : Type 0 where
+pub record TellsTree (v : View) (a : PlannedVault) (t : Tree) : Type 0 where
   pub each : (path : plain.Path) → path ≢ [] → t path ≢ NoItem → (x : Planned) × Contains a.items x × (x.path ≡ path)
   pub items : (x : Planned) → Contains a.items x → (x.path ≢ []) × (t x.path ≢ NoItem)
   pub opens : (x : Planned) → Contains a.items x → t x.path ≡ opens_as v a x
@@ -69,7 +69,7 @@ node_is : (keys : Keys) (v : View) (n : NodeKind) (at : folder.Path) → opened_
 node_is keys v node.Dir at some = refl
 node_is keys v node.File at some = file_node (opened_file keys (file_bytes (v at))) some (no_file_directory keys (file_bytes (v at)))
 
-module _ (v : View) (a : Side) (t : Tree) (tells : TellsTree v a t) where
+module _ (v : View) (a : PlannedVault) (t : Tree) (tells : TellsTree v a t) where
   pub opens_directory : (x : Planned) → Contains a.items x → x.node ≡ node.Dir → t x.path ≡ Directory
   opens_directory x among is_dir = tells.opens x among ∙ ap (λ (n : NodeKind). opened_node (format_of a.vault).content v n x.at) is_dir
 
@@ -110,12 +110,12 @@ seen_below keys root v node.Dir at = refl
 seen_below keys root v node.File at = refl
 
 -- its paths are those of the tree
-pub are_items : PlansAreTheTree → (v : View) (a : Side) → IsWalkOf v a → AreItems (tree_of v a) (paths_of a.items)
+pub are_items : PlansAreTheTree → (v : View) (a : PlannedVault) → IsWalkOf v a → AreItems (tree_of v a) (paths_of a.items)
 are_items are v a walk =
     subst (AreItems (tree_of v a)) (sym (ap paths_of walk.items_are ∙ map-map (λ (item : Planned). item.path) (placed a.root) walk.plan)) (are a.vault (under a.root v) walk.plan walk.is)
 
 -- a walk's items tell the tree
-pub walk_tells : FilesAreThere → PlansAreTheTree → (v : View) (a : Side) → IsWalkOf v a → TellsTree v a (tree_of v a)
+pub walk_tells : FilesAreThere → PlansAreTheTree → (v : View) (a : PlannedVault) → IsWalkOf v a → TellsTree v a (tree_of v a)
 walk_tells files are v a walk = record {
   each = in_plan are v a walk;
   items = λ x among. ((are_items are v a walk).items x.path).0 (contains_mapped (λ (item : Planned). item.path) a.items x among);
@@ -129,5 +129,5 @@ walk_tells files are v a walk = record {
         subst (λ (z : Planned). tree_of v a z.path ≡ opens_as v a z) p.1
         (planned_opens (format_of a.vault) (under a.root v) p.0 p.2 ∙ seen_below (format_of a.vault).content a.root v p.0.node p.0.at)
 
-pub walk_is_plan : FilesAreThere → PlansAreTheTree → (v : View) (a : Side) → IsWalkOf v a → plans.IsPlanOf (tree_of v a) a.items
+pub walk_is_plan : FilesAreThere → PlansAreTheTree → (v : View) (a : PlannedVault) → IsWalkOf v a → plans.IsPlanOf (tree_of v a) a.items
 walk_is_plan files are v a walk = record { items = are_items are v a walk; nodes = opens_node v a (tree_of v a) (walk_tells files are v a walk) }

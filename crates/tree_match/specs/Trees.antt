@@ -20,34 +20,34 @@ use Rattle.vault_spec.specs.Vault.{Vault, format_of}
 use Rattle.vault_walk.specs.Surveyed.{IsPlanOf}
 
 -- where a vault stands, and its plan
-pub record Side : Type 0 where
+pub record PlannedVault : Type 0 where
   pub vault : Vault
   pub root : Path
   pub items : List Planned
 
 -- the same vault by other items
-abbrev pub side_with : Side → List Planned → Side
-side_with a items = record { vault = a.vault; root = a.root; items = items }
+abbrev pub with_items : PlannedVault → List Planned → PlannedVault
+with_items a items = record { vault = a.vault; root = a.root; items = items }
 
 -- an opened vault by these items
-abbrev pub side_of : OpenedVault → List Planned → Side
+abbrev pub side_of : OpenedVault → List Planned → PlannedVault
 side_of a items = record { vault = a.vault; root = a.root; items = items }
 
 -- what opens in the vault
-abbrev pub tree_of : View → Side → Tree
+abbrev pub tree_of : View → PlannedVault → Tree
 tree_of v a = tree (format_of a.vault) (under a.root v)
 
 -- the plan is the one that a walk of the vault answers
-abbrev pub IsWalkOf : View → Side → Type 0
+abbrev pub IsWalkOf : View → PlannedVault → Type 0
 IsWalkOf v a = IsPlanOf a.root (format_of a.vault) (under a.root v) a.items
 
 -- it is that one at the mapped paths
-pub record IsMappedWalkOf (names : NameMap) (v : View) (a : Side) : Type 0 where
+pub record IsMappedWalkOf (names : NameMap) (v : View) (a : PlannedVault) : Type 0 where
   pub own : List Planned
-  pub walk : IsWalkOf v (side_with a own)
+  pub walk : IsWalkOf v (with_items a own)
   pub mapped : IsMappedPlan names own a.items
 
-abbrev pub match_of : View → Side → Side → Outcome Match
+abbrev pub match_of : View → PlannedVault → PlannedVault → Outcome Match
 match_of v a b = matched (format_of a.vault).content a.items (format_of b.vault).content b.items v
 
 -- what comparing the items of an opened vault with those of another answers

@@ -3,7 +3,7 @@ ghost use Rattle.std.specs.Prelude.{◌≡◌, ◌≢◌, [], Contains, List};
 ghost use Rattle.chunk_files.specs.Reading.{Whole};
 ghost use Rattle.folder_spec.specs.View.{View};
 ghost use Rattle.vault_spec.specs.PlanOf.{IsPlanOf};
-ghost use Rattle.vault_spec.specs.Mapped.{IsHeldIn, IsMappedItem, IsPartOf, StaysApart};
+ghost use Rattle.vault_spec.specs.Mapped.{IsHeldIn, IsMappedItem, IsPartOfMapped, StaysApart};
 ghost use Rattle.plain_tree.specs.Mapped.{mapped_path};
 ghost use Rattle.plain_tree.specs.Names as plain;
 ghost use Rattle.plain_tree.specs.declared.NodeKind.TheVariants.{Dir, File};
@@ -11,7 +11,7 @@ ghost use Rattle.plain_tree.specs.declared.name_map.NameMap.{NameMap};
 ghost use Rattle.tree_match.specs.Comparing.{Is, content_at};
 ghost use Rattle.tree_match.specs.Mapping.{AreFirstToMeet, IsMappedPlan};
 ghost use Rattle.tree_match.specs.Matching.{IsMatchable};
-ghost use Rattle.tree_match.specs.Trees.{HoldsAllBy, HoldsAllOrTooLong, IsMappedWalkOf, IsSameOrTooLong, IsWalkOf, Side, match_of, tree_of};
+ghost use Rattle.tree_match.specs.Trees.{HoldsAllBy, HoldsAllOrTooLong, IsMappedWalkOf, IsSameOrTooLong, IsWalkOf, PlannedVault, match_of, tree_of};
 ghost use Rattle.tree_match.specs.declared.answer.Match.TheVariants.{Same};
 ghost use Rattle.vault_spec.specs.Opens.{Content, Directory, NoItem};
 ghost use Rattle.vault_spec.specs.Plan.{Planned};
@@ -27,15 +27,15 @@ use vault_spec::laws::plans_are_the_tree;
 /// the tree of the first is held in the second's; and where that has no further ones, its tree is part of the first's mapped one. Vaults of
 /// which this is so are the same, unless a content passes the limit.
 pub fn what_is_held_opens_the_same()
-    ensures matchable { (v : View) (a : Side) → IsWalkOf v a → IsMatchable v a.items }
-    ensures mapped { (v : View) (names : NameMap) (a : Side) → IsMappedWalkOf names v a → IsMatchable v a.items }
-    ensures held { (v : View) (names : NameMap) (a b : Side) → IsMappedWalkOf names v a → IsWalkOf v b → HoldsAllBy (match_of v a b) → IsHeldIn names (tree_of v a) (tree_of v b) }
-    ensures same { (v : View) (names : NameMap) (a b : Side) → IsMappedWalkOf names v a → IsWalkOf v b → match_of v a b ≡ Is Same → IsPartOf names (tree_of v b) (tree_of v a) }
-    ensures part { (v : View) (names : NameMap) (a b : Side) → IsWalkOf v a → IsMappedWalkOf names v b → HoldsAllBy (match_of v a b) → IsPartOf names (tree_of v a) (tree_of v b) }
-    ensures alike { (v : View) (names : NameMap) (a b : Side) → IsMappedWalkOf names v a → IsWalkOf v b → IsHeldIn names (tree_of v a) (tree_of v b) → IsPartOf names (tree_of v b) (tree_of v a)
+    ensures matchable { (v : View) (a : PlannedVault) → IsWalkOf v a → IsMatchable v a.items }
+    ensures mapped { (v : View) (names : NameMap) (a : PlannedVault) → IsMappedWalkOf names v a → IsMatchable v a.items }
+    ensures held { (v : View) (names : NameMap) (a b : PlannedVault) → IsMappedWalkOf names v a → IsWalkOf v b → HoldsAllBy (match_of v a b) → IsHeldIn names (tree_of v a) (tree_of v b) }
+    ensures same { (v : View) (names : NameMap) (a b : PlannedVault) → IsMappedWalkOf names v a → IsWalkOf v b → match_of v a b ≡ Is Same → IsPartOfMapped names (tree_of v b) (tree_of v a) }
+    ensures part { (v : View) (names : NameMap) (a b : PlannedVault) → IsWalkOf v a → IsMappedWalkOf names v b → HoldsAllBy (match_of v a b) → IsPartOfMapped names (tree_of v a) (tree_of v b) }
+    ensures alike { (v : View) (names : NameMap) (a b : PlannedVault) → IsMappedWalkOf names v a → IsWalkOf v b → IsHeldIn names (tree_of v a) (tree_of v b) → IsPartOfMapped names (tree_of v b) (tree_of v a)
         → IsSameOrTooLong (match_of v a b) }
-    ensures holds { (v : View) (names : NameMap) (a b : Side) → IsMappedWalkOf names v a → IsWalkOf v b → IsHeldIn names (tree_of v a) (tree_of v b) → HoldsAllOrTooLong (match_of v a b) }
-    ensures is_part { (v : View) (names : NameMap) (a b : Side) → IsWalkOf v a → IsMappedWalkOf names v b → IsPartOf names (tree_of v a) (tree_of v b) → HoldsAllOrTooLong (match_of v a b) }
+    ensures holds { (v : View) (names : NameMap) (a b : PlannedVault) → IsMappedWalkOf names v a → IsWalkOf v b → IsHeldIn names (tree_of v a) (tree_of v b) → HoldsAllOrTooLong (match_of v a b) }
+    ensures is_part { (v : View) (names : NameMap) (a b : PlannedVault) → IsWalkOf v a → IsMappedWalkOf names v b → IsPartOfMapped names (tree_of v a) (tree_of v b) → HoldsAllOrTooLong (match_of v a b) }
 {
     files_have_their_contents();
     plans_are_the_tree();
@@ -44,9 +44,9 @@ pub fn what_is_held_opens_the_same()
 
 /// A walk tells the tree: it has each item with its kind; a directory opens, and so does a file whose content comes whole, with that.
 pub fn walks_tell_the_tree()
-    ensures plan { (v : View) (a : Side) → IsWalkOf v a → IsPlanOf (tree_of v a) a.items }
-    ensures directory { (v : View) (a : Side) (item : Planned) → IsWalkOf v a → Contains a.items item → item.node ≡ Dir → tree_of v a item.path ≡ Directory }
-    ensures file { (v : View) (a : Side) (item : Planned) → IsWalkOf v a → Contains a.items item → item.node ≡ File → (content_at (format_of a.vault).content v item.at).ending ≡ Whole
+    ensures plan { (v : View) (a : PlannedVault) → IsWalkOf v a → IsPlanOf (tree_of v a) a.items }
+    ensures directory { (v : View) (a : PlannedVault) (item : Planned) → IsWalkOf v a → Contains a.items item → item.node ≡ Dir → tree_of v a item.path ≡ Directory }
+    ensures file { (v : View) (a : PlannedVault) (item : Planned) → IsWalkOf v a → Contains a.items item → item.node ≡ File → (content_at (format_of a.vault).content v item.at).ending ≡ Whole
         → tree_of v a item.path ≡ Content (content_at (format_of a.vault).content v item.at).bytes }
 {
     files_have_their_contents();
@@ -57,13 +57,13 @@ pub fn walks_tell_the_tree()
 /// A walk at mapped paths tells the mapped tree: it has each item at its mapped path; there a directory is one, and a file whose content
 /// comes whole has that; and no two items come to one path. Items of a tree of which this is so don't meet.
 pub fn mapped_walks_tell_the_mapped_tree()
-    ensures apart { (v : View) (names : NameMap) (a : Side) → IsMappedWalkOf names v a → StaysApart names (tree_of v a) }
-    ensures each { (v : View) (names : NameMap) (a : Side) (path : plain.Path) → IsMappedWalkOf names v a → path ≢ [] → tree_of v a path ≢ NoItem
+    ensures apart { (v : View) (names : NameMap) (a : PlannedVault) → IsMappedWalkOf names v a → StaysApart names (tree_of v a) }
+    ensures each { (v : View) (names : NameMap) (a : PlannedVault) (path : plain.Path) → IsMappedWalkOf names v a → path ≢ [] → tree_of v a path ≢ NoItem
         → (item : Planned) × Contains a.items item × (item.path ≡ mapped_path names path) }
-    ensures directory { (v : View) (names : NameMap) (a : Side) (item : Planned) → IsMappedWalkOf names v a → Contains a.items item → item.node ≡ Dir → IsMappedItem names (tree_of v a) item.path Directory }
-    ensures file { (v : View) (names : NameMap) (a : Side) (item : Planned) → IsMappedWalkOf names v a → Contains a.items item → item.node ≡ File → (content_at (format_of a.vault).content v item.at).ending ≡ Whole
+    ensures directory { (v : View) (names : NameMap) (a : PlannedVault) (item : Planned) → IsMappedWalkOf names v a → Contains a.items item → item.node ≡ Dir → IsMappedItem names (tree_of v a) item.path Directory }
+    ensures file { (v : View) (names : NameMap) (a : PlannedVault) (item : Planned) → IsMappedWalkOf names v a → Contains a.items item → item.node ≡ File → (content_at (format_of a.vault).content v item.at).ending ≡ Whole
         → IsMappedItem names (tree_of v a) item.path (Content (content_at (format_of a.vault).content v item.at).bytes) }
-    ensures meet { (v : View) (names : NameMap) (a : Side) (one other : plain.Path) → IsWalkOf v a → StaysApart names (tree_of v a) → ¬ AreFirstToMeet names a.items one other }
+    ensures meet { (v : View) (names : NameMap) (a : PlannedVault) (one other : plain.Path) → IsWalkOf v a → StaysApart names (tree_of v a) → ¬ AreFirstToMeet names a.items one other }
 {
     files_have_their_contents();
     plans_are_the_tree();

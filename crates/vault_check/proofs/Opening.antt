@@ -14,7 +14,7 @@ use Rattle.folder_spec.proofs.Tables.{present_is_table}
 use Rattle.vault_spec.specs.Adding.{OpensAs}
 use Rattle.vault_spec.specs.Alike.{HasFolders}
 use Rattle.vault_spec.specs.Format.{Format}
-use Rattle.vault_spec.specs.Moving.{IsStray, StraysGoAlone, AreStrays, HasOwnFolders, cut}
+use Rattle.vault_spec.specs.Moving.{IsStray, StraysGoAlone, AreStrays, HasSoundFolders, cut}
 use Rattle.vault_spec.specs.Reached.{HaveOwnFolders}
 use Rattle.vault_values.specs.declared.keys.GoKeys.{GoKeys}
 use Rattle.vault_spec.specs.Gocryptfs.{go_format}
@@ -88,7 +88,7 @@ found_as_then s0 bytes same Directory = refl
 found_as_then s0 bytes same Odd = refl
 found_as_then s0 bytes same (FileNode n) = ap (λ b. found (λ _. b) (FileNode n)) (same n)
 
-module _ (root lost : Path) (apart : AreApart root lost) (f : Format) (alone : StraysGoAlone f) (s0 : State) (own : HasOwnFolders f (under root (seen s0))) (bytes : ℕ → List ℕ) (same : AsThen s0 bytes) where
+module _ (root lost : Path) (apart : AreApart root lost) (f : Format) (alone : StraysGoAlone f) (s0 : State) (own : HasSoundFolders f (under root (seen s0))) (bytes : ℕ → List ℕ) (same : AsThen s0 bytes) where
   -- the view of a table in the vault
   abbrev pub view_at : Table → View
   view_at t = λ rest. found bytes (t (root ++ rest))
@@ -123,7 +123,7 @@ vault_folders root s sound p a there =
     let stands : present s (child (root ++ p) a) ≢ Nothing = λ none. there (ap (found (λ n. (s.nodes n).now)) (ap (present s) (sym place) ∙ none)) in
     ap (found (λ n. (s.nodes n).now)) ((sound.tables (present s) (present_is_table s)).parents (root ++ p) a stands)
 
-own_folders : (vault : Vault) → ((keys : GoKeys) (v : View) → HaveOwnFolders (go_format keys) v) → (v : View) → HasFolders v → read.HasOwnFolders vault v → HasOwnFolders (format_of vault) v
+own_folders : (vault : Vault) → ((keys : GoKeys) (v : View) → HaveOwnFolders (go_format keys) v) → (v : View) → HasFolders v → read.HasOwnFolders vault v → HasSoundFolders (format_of vault) v
 own_folders (Gocryptfs keys) law v folders own = record { folders = folders; own = law keys v }
 own_folders (Cryptomator cm) law v folders own = record { folders = folders; own = own }
 
@@ -132,7 +132,7 @@ pub images_open : (vault : Vault) (root lost : Path) (s0 s : State) (image : Ima
     → OpensAs (format_of vault) (under root (seen s0)) (under root (view_of image))
 images_open vault root lost s0 s image alone law sound settled apart own repairing shown = by_case repairing
   where
-    owned : HasOwnFolders (format_of vault) (under root (seen s0))
+    owned : HasSoundFolders (format_of vault) (under root (seen s0))
     owned = own_folders vault law (under root (seen s0)) (vault_folders root s0 sound) own
 
     as_then : s.nodes ≡ s0.nodes → AsThen s0 image.bytes
@@ -166,7 +166,7 @@ pub repaired_opens : (vault : Vault) (root lost : Path) (moved : List Path) (a b
     → OpensAs (format_of vault) (under root (seen a.state)) (under root (seen b.state)) × ((at : Path) → ¬ IsStray (format_of vault) (under root (seen b.state)) at)
 repaired_opens vault root lost moved a b alone law sound apart own h = by_moved moved refl
   where
-    owned : HasOwnFolders (format_of vault) (under root (seen a.state))
+    owned : HasSoundFolders (format_of vault) (under root (seen a.state))
     owned = own_folders vault law (under root (seen a.state)) (vault_folders root a.state sound) own
 
     -- with folders of their own no stray is below another

@@ -8,7 +8,7 @@ use Rattle.demonstration.specs.Demo.{Demonstrates}
 use Rattle.checking_commands.specs.Fsck.{ChecksVault}
 use Rattle.writing_commands.specs.Init.{MakesVault}
 use Rattle.reading_commands.specs.Ls.{ListsItems}
-use Rattle.migration_commands.specs.Migrate.{MigratesTree, OwnFolders}
+use Rattle.migration_commands.specs.Migrate.{MigratesTree, SidesHaveOwnFolders}
 use Rattle.writing_commands.specs.Mkdir.{MakesDirectoryIn}
 use Rattle.writing_commands.specs.Put.{StoresFile}
 use Rattle.checking_commands.specs.Repair.{RepairsVault}
@@ -47,5 +47,5 @@ Runs command answer before after = ((answer ≡ OutOfMemory) × DoesNothing befo
 
 -- No two directories of either vault share a folder, of the two vaults that `migrate` compares once all is placed.
 abbrev pub OwnsFolders : Option Command → View → Type 0
-OwnsFolders (Some (Migrate moving)) v = OwnFolders moving v
+OwnsFolders (Some (Migrate moving)) v = SidesHaveOwnFolders moving v
 OwnsFolders command v = Unit {0}

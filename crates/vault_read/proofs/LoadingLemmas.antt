@@ -8,17 +8,17 @@ use Rattle.folder_spec.specs.View.{Found, NoEntry, Folder, FileOf, Special, View
 use Rattle.folder_spec.specs.Seen.{under}
 use Rattle.folder_model.specs.Answers.{CountsAbove}
 use Rattle.port_model.specs.Counts.{CountRose}
-use Rattle.vault_spec.specs.Vault.{Answer, Either, OfFile, LoadsGo, LoadsCm, TestsGo, TestsCm, go_conf, master_file, vault_file}
+use Rattle.vault_spec.specs.Vault.{Loaded, Either, OfFile, LoadsGo, LoadsCm, TestsGo, TestsCm, go_conf, master_file, vault_file}
 use Rattle.vault_spec.specs.Vault as spec
 use Rattle.vault_read.specs.declared.fault.LoadFault.{LoadFault}
 use Rattle.vault_read.specs.declared.fault.LoadFault.TheVariants.{Missing, WrongKind, TooLarge, Go, Cm, WrongPass, BadSignature, Failed, NoMemory}
-use Rattle.vault_read.specs.Loading.{of_folder, Refuses, IsFileAt, LacksFile}
+use Rattle.vault_read.specs.Loading.{of_folder, RefusesLoading, IsSmallFile, LacksFile}
 
 -- ---- refusals
 
 -- a refusal by some tests is one by those that follow from them
-pub refuses_as : (root : Path) (Tests Others : Answer → Type 0) (fault : LoadFault) → ((answer : Answer) → Tests answer → Others answer)
-    → Refuses root Tests fault → Refuses root Others fault
+pub refuses_as : (root : Path) (Tests Others : Loaded → Type 0) (fault : LoadFault) → ((answer : Loaded) → Tests answer → Others answer)
+    → RefusesLoading root Tests fault → RefusesLoading root Others fault
 refuses_as root Tests Others (Missing at) follow (rest, is, told) = (rest, is, follow (Err (spec.Missing rest)) told)
 refuses_as root Tests Others (WrongKind at) follow (rest, is, told) = (rest, is, follow (Err (spec.WrongKind rest)) told)
 refuses_as root Tests Others (TooLarge at) follow (rest, is, told) = (rest, is, follow (Err (spec.TooLarge rest)) told)
@@ -47,12 +47,12 @@ either_as true A B C follow a = follow a
 either_as false A B C follow a = a
 
 -- a file that was read
-pub of_file : (at : Path) (there : Found) (bytes : List ℕ) (answer : Answer) (Next : List ℕ → Type 0) → IsFileAt there bytes → Next bytes → OfFile at there answer Next
+pub of_file : (at : Path) (there : Found) (bytes : List ℕ) (answer : Loaded) (Next : List ℕ → Type 0) → IsSmallFile there bytes → Next bytes → OfFile at there answer Next
 of_file at there bytes answer Next (is, few) next =
     subst (λ (x : Found). OfFile at x answer Next) (sym is) (either_true (nat_le (length bytes) 65536) (Next bytes) (answer ≡ Err (spec.TooLarge at)) (le-leb (length bytes) 65536 few) next)
 
 -- none that could be read
-pub lacks_as : (at : Path) (there : Found) (answer : Answer) (Next : List ℕ → Type 0) → LacksFile at there answer → OfFile at there answer Next
+pub lacks_as : (at : Path) (there : Found) (answer : Loaded) (Next : List ℕ → Type 0) → LacksFile at there answer → OfFile at there answer Next
 lacks_as at NoEntry answer Next h = h
 lacks_as at Folder answer Next h = h
 lacks_as at Special answer Next h = h
@@ -60,23 +60,23 @@ lacks_as at (FileOf bytes) answer Next h = either_as (nat_le (length bytes) 6553
 
 -- the tests of a gocryptfs vault behind its configuration, and those of a Cryptomator vault behind its two files
 module _ (root : Path) (v : View) (pass : List ℕ) where
-  pub loads_go : (bytes : List ℕ) (answer : Answer) → IsFileAt (v (root ++ go_conf)) bytes → TestsGo bytes pass answer → LoadsGo (under root v) pass answer
+  pub loads_go : (bytes : List ℕ) (answer : Loaded) → IsSmallFile (v (root ++ go_conf)) bytes → TestsGo bytes pass answer → LoadsGo (under root v) pass answer
   loads_go bytes answer file tests = of_file go_conf (v (root ++ go_conf)) bytes answer (λ b. TestsGo b pass answer) file tests
 
-  pub lacks_go : (answer : Answer) → LacksFile go_conf (v (root ++ go_conf)) answer → LoadsGo (under root v) pass answer
+  pub lacks_go : (answer : Loaded) → LacksFile go_conf (v (root ++ go_conf)) answer → LoadsGo (under root v) pass answer
   lacks_go answer h = lacks_as go_conf (v (root ++ go_conf)) answer (λ b. TestsGo b pass answer) h
 
-  pub loads_cm : (master vault : List ℕ) (answer : Answer) → IsFileAt (v (root ++ master_file)) master → IsFileAt (v (root ++ vault_file)) vault → TestsCm master vault pass answer
+  pub loads_cm : (master vault : List ℕ) (answer : Loaded) → IsSmallFile (v (root ++ master_file)) master → IsSmallFile (v (root ++ vault_file)) vault → TestsCm master vault pass answer
       → LoadsCm (under root v) pass answer
   loads_cm master vault answer first second tests =
       of_file master_file (v (root ++ master_file)) master answer (λ m. OfFile vault_file (v (root ++ vault_file)) answer (λ b. TestsCm m b pass answer)) first
       (of_file vault_file (v (root ++ vault_file)) vault answer (λ b. TestsCm master b pass answer) second tests)
 
-  pub lacks_vault : (master : List ℕ) (answer : Answer) → IsFileAt (v (root ++ master_file)) master → LacksFile vault_file (v (root ++ vault_file)) answer → LoadsCm (under root v) pass answer
+  pub lacks_vault : (master : List ℕ) (answer : Loaded) → IsSmallFile (v (root ++ master_file)) master → LacksFile vault_file (v (root ++ vault_file)) answer → LoadsCm (under root v) pass answer
   lacks_vault master answer first h =
       of_file master_file (v (root ++ master_file)) master answer (λ m. OfFile vault_file (v (root ++ vault_file)) answer (λ b. TestsCm m b pass answer)) first
       (lacks_as vault_file (v (root ++ vault_file)) answer (λ b. TestsCm master b pass answer) h)
 
-  pub lacks_master : (answer : Answer) → LacksFile master_file (v (root ++ master_file)) answer → LoadsCm (under root v) pass answer
+  pub lacks_master : (answer : Loaded) → LacksFile master_file (v (root ++ master_file)) answer → LoadsCm (under root v) pass answer
   lacks_master answer h =
       lacks_as master_file (v (root ++ master_file)) answer (λ m. OfFile vault_file (v (root ++ vault_file)) answer (λ b. TestsCm m b pass answer)) h

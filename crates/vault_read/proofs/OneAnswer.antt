@@ -13,20 +13,20 @@ use Rattle.gocrypt_conf.specs.declared.fault.GoConfFault.{GoConfFault}
 use Rattle.vault_values.specs.declared.keys.GoKeys.{GoKeys}
 use Rattle.gocrypt_conf.specs.Laws as go
 use Rattle.vault_spec.specs.Format.{is_file}
-use Rattle.vault_spec.specs.Vault.{Answer, Either, OfFile, UnlocksGo, TestsGo, LoadsGo, Signs, UnlocksCm, TestsCm, LoadsCm, LoadsFrom, Loads, Gocryptfs, go_conf, master_file, vault_file, TooLarge, GoRefused, CmRefused}
+use Rattle.vault_spec.specs.Vault.{Loaded, Either, OfFile, UnlocksGo, TestsGo, LoadsGo, Signs, UnlocksCm, TestsCm, LoadsCm, LoadsFrom, Loads, Gocryptfs, go_conf, master_file, vault_file, TooLarge, GoRefused, CmRefused}
 
 -- facts of which one answer is told
-abbrev pub HasOne : (Answer → Type 0) → Type 0
-HasOne Tells = (a b : Answer) → Tells a → Tells b → a ≡ b
+abbrev pub HasOne : (Loaded → Type 0) → Type 0
+HasOne Tells = (a b : Loaded) → Tells a → Tells b → a ≡ b
 
-either_one : (test : Bool) (One Other : Answer → Type 0) → HasOne One → HasOne Other → HasOne (λ answer. Either test (One answer) (Other answer))
+either_one : (test : Bool) (One Other : Loaded → Type 0) → HasOne One → HasOne Other → HasOne (λ answer. Either test (One answer) (Other answer))
 either_one true One Other one other a b p q = one a b p q
 either_one false One Other one other a b p q = other a b p q
 
-is_one : (answer : Answer) → HasOne (λ a. a ≡ answer)
+is_one : (answer : Loaded) → HasOne (λ a. a ≡ answer)
 is_one answer a b p q = p ∙ sym q
 
-of_file_one : (at : Path) (there : Found) (Next : List ℕ → Answer → Type 0) → ((bytes : List ℕ) → HasOne (Next bytes))
+of_file_one : (at : Path) (there : Found) (Next : List ℕ → Loaded → Type 0) → ((bytes : List ℕ) → HasOne (Next bytes))
     → HasOne (λ answer. OfFile at there answer (λ bytes. Next bytes answer))
 of_file_one at NoEntry Next one a b p q = p ∙ sym q
 of_file_one at Folder Next one a b p q = p ∙ sym q
@@ -34,7 +34,7 @@ of_file_one at Special Next one a b p q = p ∙ sym q
 of_file_one at (FileOf bytes) Next one a b p q =
     either_one (nat_le (length bytes) 65536) (Next bytes) (λ answer. answer ≡ Err (TooLarge at)) (one bytes) (is_one (Err (TooLarge at))) a b p q
 
-match_one : {T E : Type 0} (read : Result T E) (Good : T → Answer → Type 0) (Bad : E → Answer → Type 0) → ((value : T) → HasOne (Good value)) → ((fault : E) → HasOne (Bad fault))
+match_one : {T E : Type 0} (read : Result T E) (Good : T → Loaded → Type 0) (Bad : E → Loaded → Type 0) → ((value : T) → HasOne (Good value)) → ((fault : E) → HasOne (Bad fault))
     → HasOne (λ answer. MatchResult read (λ value. Good value answer) (λ fault. Bad fault answer))
 match_one (Ok value) Good Bad good bad a b p q = good value a b p q
 match_one (Err fault) Good Bad good bad a b p q = bad fault a b p q
@@ -48,7 +48,7 @@ module _ (reads : go.HaveOneAnswer) (unlocks : go.UnlocksOnePair) where
 
   tests_go_one : (bytes pass : List ℕ) → HasOne (TestsGo bytes pass)
   tests_go_one bytes pass a b (read, reads_as, told) (read2, reads_as2, told2) =
-      let Told : Result GoConf GoConfFault → Answer → Type 0 = λ r answer. MatchResult r (λ conf. UnlocksGo conf pass answer) (λ fault. answer ≡ Err (GoRefused fault)) in
+      let Told : Result GoConf GoConfFault → Loaded → Type 0 = λ r answer. MatchResult r (λ conf. UnlocksGo conf pass answer) (λ fault. answer ≡ Err (GoRefused fault)) in
       match_one read (λ conf. UnlocksGo conf pass) (λ fault answer. answer ≡ Err (GoRefused fault)) (λ conf. unlocks_go_one conf pass) (λ fault. is_one (Err (GoRefused fault)))
       a b told (subst (λ (r : Result GoConf GoConfFault). Told r b) (reads bytes read2 read reads_as2 reads_as) told2)
 
@@ -69,7 +69,7 @@ module _ (reads : cm.HaveOneAnswer) (unlocks : cm.UnlocksOnePair) where
   unlocks_cm_one master file pass a b (inr (none, is)) (inl (keys, are, opens, signs)) = absurd (none keys are opens)
   unlocks_cm_one master file pass a b (inr (none, is)) (inr (none2, is2)) = is ∙ sym is2
 
-  abbrev AfterMaster : List ℕ → List ℕ → MasterFile → Answer → Type 0
+  abbrev AfterMaster : List ℕ → List ℕ → MasterFile → Loaded → Type 0
   AfterMaster vault_bytes pass master answer =
       MatchResult (vault_in vault_bytes) (λ file. UnlocksCm master file pass answer) (λ fault. answer ≡ Err (CmRefused vault_file fault))
 
@@ -80,7 +80,7 @@ module _ (reads : cm.HaveOneAnswer) (unlocks : cm.UnlocksOnePair) where
 
   tests_cm_one : (master_bytes vault_bytes pass : List ℕ) → HasOne (TestsCm master_bytes vault_bytes pass)
   tests_cm_one master_bytes vault_bytes pass a b (read, reads_as, told) (read2, reads_as2, told2) =
-      let Told : Result MasterFile CmConfFault → Answer → Type 0 = λ r answer. MatchResult r (λ master. AfterMaster vault_bytes pass master answer) (λ fault. answer ≡ Err (CmRefused master_file fault)) in
+      let Told : Result MasterFile CmConfFault → Loaded → Type 0 = λ r answer. MatchResult r (λ master. AfterMaster vault_bytes pass master answer) (λ fault. answer ≡ Err (CmRefused master_file fault)) in
       match_one read (AfterMaster vault_bytes pass) (λ fault answer. answer ≡ Err (CmRefused master_file fault)) (after_master_one vault_bytes pass) (λ fault. is_one (Err (CmRefused master_file fault)))
       a b told (subst (λ (r : Result MasterFile CmConfFault). Told r b) (reads master_bytes read2 read reads_as2 reads_as) told2)
 
@@ -97,5 +97,5 @@ module _ (go_reads : go.HaveOneAnswer) (go_unlocks : go.UnlocksOnePair) (cm_read
   from_one Folder a b p q =
       either_one (not (is_file (v go_conf)) && is_file (v vault_file)) (LoadsCm v pass) (LoadsGo v pass) (loads_cm_one cm_reads cm_unlocks v pass) (loads_go_one go_reads go_unlocks v pass) a b p q
 
-  pub loads_one : (a b : Answer) → Loads v pass a → Loads v pass b → a ≡ b
+  pub loads_one : (a b : Loaded) → Loads v pass a → Loads v pass b → a ≡ b
   loads_one a b p q = from_one (v []) a b p q

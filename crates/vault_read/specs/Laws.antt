@@ -6,11 +6,11 @@ use Rattle.vault_spec.specs.Anywhere.{NewItemsComeAtLast, ContentsOpenAnew}
 use Rattle.vault_spec.specs.Format.{Format}
 use Rattle.vault_spec.specs.Staying.{NewItemsStayVaults, ReplacedContentsStayVaults}
 use Rattle.vault_spec.specs.Tidy.{NewItemsStayTidy, OwnPlacesAreFree, ReplacedContentsStayTidy}
-use Rattle.vault_spec.specs.Vault.{Answer, Loads}
+use Rattle.vault_spec.specs.Vault.{Loaded, Loads}
 
 -- a root and a passphrase have one answer at most
 abbrev pub HaveOneAnswer : Type 0
-HaveOneAnswer = (v : View) (pass : List ℕ) (a b : Answer) → Loads v pass a → Loads v pass b → a ≡ b
+HaveOneAnswer = (v : View) (pass : List ℕ) (a b : Loaded) → Loads v pass a → Loads v pass b → a ≡ b
 
 -- what holds of a format while an item is made, and while a content is replaced
 pub record KeepsVaults (f : Format) : Type 0 where

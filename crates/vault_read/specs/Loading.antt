@@ -6,7 +6,7 @@ use Rattle.folder_spec.specs.declared.FolderFault.{FolderFault}
 use Rattle.folder_spec.specs.declared.FolderFault.TheVariants as folder
 use Rattle.folder_spec.specs.Path.{Path}
 use Rattle.folder_spec.specs.View.{Found, FileOf}
-use Rattle.vault_spec.specs.Vault.{Answer, OfFile, UnlocksGo, UnlocksCm, vault_file, master_file}
+use Rattle.vault_spec.specs.Vault.{Loaded, OfFile, UnlocksGo, UnlocksCm, vault_file, master_file}
 use Rattle.vault_spec.specs.Vault as spec
 use Rattle.vault_read.specs.declared.fault.LoadFault.{LoadFault}
 use Rattle.vault_read.specs.declared.fault.LoadFault.TheVariants.{Missing, WrongKind, TooLarge, Go, Cm, WrongPass, BadSignature, Failed, NoMemory}
@@ -21,16 +21,16 @@ of_folder folder.NoMemory = NoMemory
 
 -- A refusal is one that these tests give, with paths below the root. The folder may fail, and memory may be refused, whatever the
 -- tests say.
-abbrev pub Refuses : Path → (Answer → Type 0) → LoadFault → Type 0
-Refuses root Tests (Missing at) = (rest : Path) × (at ≡ root ++ rest) × Tests (Err (spec.Missing rest))
-Refuses root Tests (WrongKind at) = (rest : Path) × (at ≡ root ++ rest) × Tests (Err (spec.WrongKind rest))
-Refuses root Tests (TooLarge at) = (rest : Path) × (at ≡ root ++ rest) × Tests (Err (spec.TooLarge rest))
-Refuses root Tests (Go fault) = Tests (Err (spec.GoRefused fault))
-Refuses root Tests (Cm at fault) = (rest : Path) × (at ≡ root ++ rest) × Tests (Err (spec.CmRefused rest fault))
-Refuses root Tests WrongPass = Tests (Err spec.WrongPass)
-Refuses root Tests BadSignature = Tests (Err spec.BadSignature)
-Refuses root Tests Failed = Unit {0}
-Refuses root Tests NoMemory = Unit {0}
+abbrev pub RefusesLoading : Path → (Loaded → Type 0) → LoadFault → Type 0
+RefusesLoading root Tests (Missing at) = (rest : Path) × (at ≡ root ++ rest) × Tests (Err (spec.Missing rest))
+RefusesLoading root Tests (WrongKind at) = (rest : Path) × (at ≡ root ++ rest) × Tests (Err (spec.WrongKind rest))
+RefusesLoading root Tests (TooLarge at) = (rest : Path) × (at ≡ root ++ rest) × Tests (Err (spec.TooLarge rest))
+RefusesLoading root Tests (Go fault) = Tests (Err (spec.GoRefused fault))
+RefusesLoading root Tests (Cm at fault) = (rest : Path) × (at ≡ root ++ rest) × Tests (Err (spec.CmRefused rest fault))
+RefusesLoading root Tests WrongPass = Tests (Err spec.WrongPass)
+RefusesLoading root Tests BadSignature = Tests (Err spec.BadSignature)
+RefusesLoading root Tests Failed = Unit {0}
+RefusesLoading root Tests NoMemory = Unit {0}
 
 -- the format whose configuration counts, by whether `gocryptfs.conf` and `vault.cryptomator` are files
 abbrev pub kind_by : Bool → Bool → VaultKind
@@ -39,11 +39,11 @@ kind_by false true = kind.Cryptomator
 kind_by false false = kind.Gocryptfs
 
 -- a file of at most 65,536 bytes
-abbrev pub IsFileAt : Found → List ℕ → Type 0
-IsFileAt there bytes = (there ≡ FileOf bytes) × (length bytes ≤ 65536)
+abbrev pub IsSmallFile : Found → List ℕ → Type 0
+IsSmallFile there bytes = (there ≡ FileOf bytes) × (length bytes ≤ 65536)
 
 -- no file of at most 65,536 bytes is there, and the answer says so
-abbrev pub LacksFile : Path → Found → Answer → Type 0
+abbrev pub LacksFile : Path → Found → Loaded → Type 0
 LacksFile at there answer = OfFile at there answer (λ bytes. ⊥)
 
 -- memory was refused, or this file is refused

@@ -7,7 +7,7 @@ ghost use Rattle.folder_model.specs.Answers.{CountsAbove, OnlyLooks};
 ghost use Rattle.vault_spec.specs.Format.{is_file};
 ghost use Rattle.vault_spec.specs.Vault.{LoadsGo, LoadsCm, LoadsBy, Loads, IsVault, TestsGo, TestsCm, UnlocksCm, go_conf, vault_file};
 ghost use Rattle.vault_read.specs.Opened.{vault_of};
-ghost use Rattle.vault_read.specs.Loading.{Refuses, kind_by, IsFileAt, LacksFile, IsRefused};
+ghost use Rattle.vault_read.specs.Loading.{RefusesLoading, kind_by, IsSmallFile, LacksFile, IsRefused};
 
 use crate::fault::LoadFault;
 use crate::looking::{SmallFile, read_small};
@@ -46,7 +46,7 @@ impl Vault {
         ensures looks { OnlyLooks (F.told folder.old) (F.told folder.new) (result ≡ Err LoadFault.Failed) (F.faults folder.old) (F.faults folder.new) }
         ensures root { IfOk result (λ vault. vault.root ≡ root.now) }
         ensures vault { IfOk result (λ vault. IfSeen (F.told folder.old) (λ v. IsVault (under root.now v) pass.now vault.vault)) }
-        ensures fault { IfErr result (λ fault. IfSeen (F.told folder.old) (λ v. Refuses root.now (Loads (under root.now v) pass.now) fault)) }
+        ensures fault { IfErr result (λ fault. IfSeen (F.told folder.old) (λ v. RefusesLoading root.now (Loads (under root.now v) pass.now) fault)) }
     {
         let keys = load_keys(alloc, folder, root, pass)?;
         Ok(Vault::new(root.copy()?, keys))
@@ -62,7 +62,7 @@ fn load_keys<F: Folder>(
 ) -> Result<VaultKeys, LoadFault>
     ensures looks { OnlyLooks (F.told folder.old) (F.told folder.new) (result ≡ Err LoadFault.Failed) (F.faults folder.old) (F.faults folder.new) }
     ensures keys { IfOk result (λ keys. IfSeen (F.told folder.old) (λ v. IsVault (under root.now v) pass.now (vault_of keys))) }
-    ensures fault { IfErr result (λ fault. IfSeen (F.told folder.old) (λ v. Refuses root.now (Loads (under root.now v) pass.now) fault)) }
+    ensures fault { IfErr result (λ fault. IfSeen (F.told folder.old) (λ v. RefusesLoading root.now (Loads (under root.now v) pass.now) fault)) }
 {
     match folder.kind(root)? {
         Kind::Missing => Err(LoadFault::Missing(root.copy()?)),
@@ -81,7 +81,7 @@ fn load_from<F: Folder>(
 ) -> Result<VaultKeys, LoadFault>
     ensures looks { OnlyLooks (F.told folder.old) (F.told folder.new) (result ≡ Err LoadFault.Failed) (F.faults folder.old) (F.faults folder.new) }
     ensures keys { IfOk result (λ keys. IfSeen (F.told folder.old) (λ v. LoadsBy (v (root.now ++ go_conf)) (v (root.now ++ vault_file)) (under root.now v) pass.now (Ok (vault_of keys)))) }
-    ensures fault { IfErr result (λ fault. IfSeen (F.told folder.old) (λ v. Refuses root.now (LoadsBy (v (root.now ++ go_conf)) (v (root.now ++ vault_file)) (under root.now v) pass.now) fault)) }
+    ensures fault { IfErr result (λ fault. IfSeen (F.told folder.old) (λ v. RefusesLoading root.now (LoadsBy (v (root.now ++ go_conf)) (v (root.now ++ vault_file)) (under root.now v) pass.now) fault)) }
 {
     match kind_of_root(folder, root)? {
         VaultKind::Gocryptfs => load_go(alloc, folder, root, pass),
@@ -120,7 +120,7 @@ fn load_go<F: Folder>(
 ) -> Result<VaultKeys, LoadFault>
     ensures looks { OnlyLooks (F.told folder.old) (F.told folder.new) (result ≡ Err LoadFault.Failed) (F.faults folder.old) (F.faults folder.new) }
     ensures keys { IfOk result (λ keys. IfSeen (F.told folder.old) (λ v. LoadsGo (under root.now v) pass.now (Ok (vault_of keys)))) }
-    ensures fault { IfErr result (λ fault. IfSeen (F.told folder.old) (λ v. Refuses root.now (LoadsGo (under root.now v) pass.now) fault)) }
+    ensures fault { IfErr result (λ fault. IfSeen (F.told folder.old) (λ v. RefusesLoading root.now (LoadsGo (under root.now v) pass.now) fault)) }
 {
     let bytes = read_configuration(alloc, folder, root, GO_CONF)?;
     unlock_go(alloc, root, bytes.as_slice(), pass)
@@ -134,7 +134,7 @@ fn load_cm<F: Folder>(
 ) -> Result<VaultKeys, LoadFault>
     ensures looks { OnlyLooks (F.told folder.old) (F.told folder.new) (result ≡ Err LoadFault.Failed) (F.faults folder.old) (F.faults folder.new) }
     ensures keys { IfOk result (λ keys. IfSeen (F.told folder.old) (λ v. LoadsCm (under root.now v) pass.now (Ok (vault_of keys)))) }
-    ensures fault { IfErr result (λ fault. IfSeen (F.told folder.old) (λ v. Refuses root.now (LoadsCm (under root.now v) pass.now) fault)) }
+    ensures fault { IfErr result (λ fault. IfSeen (F.told folder.old) (λ v. RefusesLoading root.now (LoadsCm (under root.now v) pass.now) fault)) }
 {
     let master = read_configuration(alloc, folder, root, MASTER_FILE)?;
     let vault = read_configuration(alloc, folder, root, VAULT_FILE)?;
@@ -149,8 +149,8 @@ fn read_configuration<F: Folder>(
     name: &str,
 ) -> Result<Bytes, LoadFault>
     ensures looks { OnlyLooks (F.told folder.old) (F.told folder.new) (result ≡ Err LoadFault.Failed) (F.faults folder.old) (F.faults folder.new) }
-    ensures bytes { IfOk result (λ bytes. IfSeen (F.told folder.old) (λ v. IsFileAt (v (child root.now name.now)) bytes)) }
-    ensures fault { IfErr result (λ fault. IfSeen (F.told folder.old) (λ v. Refuses root.now (LacksFile (name.now ∷ []) (v (child root.now name.now))) fault)) }
+    ensures bytes { IfOk result (λ bytes. IfSeen (F.told folder.old) (λ v. IsSmallFile (v (child root.now name.now)) bytes)) }
+    ensures fault { IfErr result (λ fault. IfSeen (F.told folder.old) (λ v. RefusesLoading root.now (LacksFile (name.now ∷ []) (v (child root.now name.now))) fault)) }
 {
     let at = root.child(name)?;
     match read_small(alloc, folder, &at, MAX_SIZE)? {
@@ -164,7 +164,7 @@ fn read_configuration<F: Folder>(
 // The keys of a gocryptfs vault, by the bytes of its configuration.
 fn unlock_go(alloc: Global, root: &FPath, bytes: &[u8], pass: &[u8]) -> Result<VaultKeys, LoadFault>
     ensures keys { IfOk result (λ keys. TestsGo bytes.now pass.now (Ok (vault_of keys))) }
-    ensures fault { IfErr result (λ fault. Refuses root.now (TestsGo bytes.now pass.now) fault) }
+    ensures fault { IfErr result (λ fault. RefusesLoading root.now (TestsGo bytes.now pass.now) fault) }
     ensures tested { result ≢ Err LoadFault.Failed }
 {
     let conf = match gocryptfs::read(alloc, bytes) {
@@ -188,7 +188,7 @@ fn unlock_cm(
     pass: &[u8],
 ) -> Result<VaultKeys, LoadFault>
     ensures keys { IfOk result (λ keys. TestsCm master.now vault.now pass.now (Ok (vault_of keys))) }
-    ensures fault { IfErr result (λ fault. Refuses root.now (TestsCm master.now vault.now pass.now) fault) }
+    ensures fault { IfErr result (λ fault. RefusesLoading root.now (TestsCm master.now vault.now pass.now) fault) }
     ensures tested { result ≢ Err LoadFault.Failed }
 {
     let master = match read_master(alloc, master) {
@@ -223,7 +223,7 @@ fn unlock_master(
     pass: &[u8],
 ) -> Result<VaultKeys, LoadFault>
     ensures keys { IfOk result (λ keys. UnlocksCm master.now file.now pass.now (Ok (vault_of keys))) }
-    ensures fault { IfErr result (λ fault. (root : Path) → Refuses root (UnlocksCm master.now file.now pass.now) fault) }
+    ensures fault { IfErr result (λ fault. (root : Path) → RefusesLoading root (UnlocksCm master.now file.now pass.now) fault) }
     ensures tested { result ≢ Err LoadFault.Failed }
 {
     let keys = match cryptomator::unlock(alloc, master, pass) {

@@ -14,7 +14,7 @@ use Rattle.vault_spec.specs.Format.{Format, Directory, Item, Nothing, FileItem, 
 use Rattle.vault_spec.specs.Standing.{Standing, Absent, Strange, File, Dir, root_of, directory_with, entry_at, holds_full, item_at, standing_of, standing_in, standing_from}
 use Rattle.vault_spec.specs.Reached.{Leads, HaveOwnFolders}
 use Rattle.vault_spec.specs.Findings.{IsClean, IsLocked}
-use Rattle.vault_spec.specs.Alike.{IsNoItem, HasFolders, IsOrderly}
+use Rattle.vault_spec.specs.Alike.{HasNoItem, HasFolders, IsOrderly}
 use Rattle.vault_spec.proofs.Lawful.{IsLawful}
 use Rattle.vault_spec.proofs.Grafts.{IsEntered, is_entered, reached_right, standing_named, standing_unnamed}
 use Rattle.vault_spec.proofs.PathEnds.{child-both}
@@ -132,9 +132,9 @@ one_child f lawful v clean own p q a b d one two = (dirs, names)
 
     no_other : a ≢ b → ⊥
     no_other apart =
-        let none : IsNoItem (standing_in f v two.dir a) = other_name f lawful v two.dir b a (reached_right f lawful v q two.dir two.leads).is_key two.how.named one.how.named
+        let none : HasNoItem (standing_in f v two.dir a) = other_name f lawful v two.dir b a (reached_right f lawful v q two.dir two.leads).is_key two.how.named one.how.named
         (ap (λ (x : Directory). (f.stored x.key a).name) (sym dirs) ∙ both.1) two.how.held apart in
-        subst IsNoItem (ap (λ x. standing_in f v x a) (sym dirs) ∙ one.stands) none
+        subst HasNoItem (ap (λ x. standing_in f v x a) (sym dirs) ∙ one.stands) none
 
     by_eq : (t : Bool) → bytes_eq a b ≡ t → a ≡ b
     by_eq true e = (bytes_eq-Decides a b).0 e

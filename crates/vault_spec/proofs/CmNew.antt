@@ -20,7 +20,7 @@ use Rattle.vault_spec.specs.Standing.{Dir, item_at}
 use Rattle.vault_spec.specs.Reached.{Leads}
 use Rattle.vault_spec.specs.Findings.{IsUnnamed, IsDirectoryItem, IsLocked, IsOrphanName, IsOrphanFolder, IsInside, IsClean}
 use Rattle.vault_spec.specs.Findings as findings
-use Rattle.vault_spec.specs.Alike.{IsNoItem}
+use Rattle.vault_spec.specs.Alike.{HasNoItem}
 use Rattle.vault_spec.specs.Empty.{IsEmptyVault}
 use Rattle.vault_spec.proofs.Grafts.{none_stands}
 use Rattle.vault_spec.proofs.Places.{brought, brought_there}
@@ -231,7 +231,7 @@ new_clean vault texts m w = clean
         (nothing_in u.reached.0 u.dir (cm_stored vault.keys vault.threshold u.dir.key u.name).name u.reached.1)) ∙ u.is in cc
 
     no_item : (at : Path) (x : Result Directory Lack) → ¬ IsDirectoryItem (cm_format vault) (new_root m w (cm_folder_of vault.keys [])) at x
-    no_item at x item = subst IsNoItem item.stands (none_stands (cm_format vault) (cm_lawful vault texts) (new_root m w (cm_folder_of vault.keys [])) item.dir item.name
+    no_item at x item = subst HasNoItem item.stands (none_stands (cm_format vault) (cm_lawful vault texts) (new_root m w (cm_folder_of vault.keys [])) item.dir item.name
         (nothing_in item.reached.0 item.dir (cm_stored vault.keys vault.threshold item.dir.key item.name).name item.reached.1))
 
     no_locked : (lack : Lack) (at : Path) → ¬ IsLocked (cm_format vault) (new_root m w (cm_folder_of vault.keys [])) lack at

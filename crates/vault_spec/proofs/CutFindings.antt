@@ -7,7 +7,7 @@ use Rattle.vault_spec.specs.declared.Finding.{Finding}
 use Rattle.vault_spec.specs.declared.Finding.TheVariants as is
 use Rattle.vault_spec.specs.declared.Lack.{Lack}
 use Rattle.vault_spec.specs.declared.Lack.TheVariants as lacks
-use Rattle.vault_spec.specs.Alike.{IsNoItem}
+use Rattle.vault_spec.specs.Alike.{HasNoItem}
 use Rattle.vault_spec.specs.Findings.{IsEntryOf, Belongs, IsUnnamed, IsDirectoryItem, IsLocked, IsFullTextOf, IsOrphanName, IsTwice, IsLoose, IsFixed, IsOrphanFolder, IsInside, IsExtra, IsDamaged, HasFault, IsFinding}
 use Rattle.vault_spec.specs.Findings as findings
 use Rattle.vault_spec.specs.Format.{Format, Directory, Nothing, NoItem, Expected, ContentFolder, Extra, key_of}
@@ -115,7 +115,7 @@ directory_back f lawful v gone is_cut at x u = record {
     reached = reached;
     stands = elim ((cut_alike f lawful v gone is_cut).steps reached.0 u.dir u.name reached.1) [
       | inl same ↦ same.stands ∙ u.stands
-      | inr none ↦ absurd (subst IsNoItem u.stands none.1)
+      | inr none ↦ absurd (subst HasNoItem u.stands none.1)
     ];
   };
   stays = ap gone how.place ∙ stays;
@@ -129,7 +129,7 @@ directory_back f lawful v gone is_cut at x u = record {
     how = stands_as f (cut gone v) u.dir u.name at x u.stands
 
     stays : gone (entry_at f u.dir u.name) ≡ false
-    stays = is_still v gone (entry_at f u.dir u.name) (λ none. subst IsNoItem u.stands (none_stands f lawful (cut gone v) u.dir u.name none))
+    stays = is_still v gone (entry_at f u.dir u.name) (λ none. subst HasNoItem u.stands (none_stands f lawful (cut gone v) u.dir u.name none))
 
 -- a directory without its key or its folder was one
 locked_back : (f : Format) (lawful : IsLawful f) (v : View) (gone : Path → Bool) → IsCut f lawful v gone → (lack : Lack) (at : Path) → IsLocked f (cut gone v) lack at → IsLocked f v lack at × (gone at ≡ false)
@@ -260,7 +260,7 @@ fault_back f lawful v gone is_cut finding at u = (
       reached = reached;
       stands = elim ((cut_alike f lawful v gone is_cut).steps reached.0 u.damaged.dir u.damaged.name reached.1) [
         | inl same ↦ same.stands ∙ u.damaged.stands
-        | inr none ↦ absurd (subst IsNoItem u.damaged.stands none.1)
+        | inr none ↦ absurd (subst HasNoItem u.damaged.stands none.1)
       ];
       bytes = u.damaged.bytes;
       there = sym (kept v gone at was.0) ∙ u.damaged.there;

@@ -10,7 +10,7 @@ use Rattle.vault_spec.specs.declared.Finding.TheVariants.{SymlinkFound}
 use Rattle.vault_spec.specs.declared.Lack.{Lack}
 use Rattle.vault_spec.specs.declared.Lack.TheVariants.{NoFolder}
 use Rattle.vault_spec.specs.Adding.{OpensAs}
-use Rattle.vault_spec.specs.Alike.{IsNoItem, AreAlike, LooksAlike}
+use Rattle.vault_spec.specs.Alike.{HasNoItem, AreAlike, LooksAlike}
 use Rattle.vault_spec.specs.Format.{Format, Directory, Item, Nothing, FileItem, DirectoryItem, NoItem, Expected, ContentFolder, Extra, is_folder, file_bytes, key_of}
 use Rattle.vault_spec.specs.Moving.{cut}
 use Rattle.vault_spec.specs.Reached.{Leads, IsReached}
@@ -101,8 +101,8 @@ step_stays : (f : Format) (lawful : IsLawful f) (v : View) (gone : Path → Bool
     → AreAlike v (cut gone v) (standing_in f v dir name) (standing_in f (cut gone v) dir name)
 step_stays f lawful v gone is_cut path dir name leads = by_name (is_name name) refl (gone_or_not (holds_full f v dir (f.stored dir.key name))) (gone_or_not (gone (entry_at f dir name)))
   where
-    unheld : (w : View) → is_name name ≡ true → holds_full f w dir (f.stored dir.key name) ≡ false → IsNoItem (standing_in f w dir name)
-    unheld w named is = subst IsNoItem (sym (standing_named f w dir name named
+    unheld : (w : View) → is_name name ≡ true → holds_full f w dir (f.stored dir.key name) ≡ false → HasNoItem (standing_in f w dir name)
+    unheld w named is = subst HasNoItem (sym (standing_named f w dir name named
         ∙ ap (λ b. standing_of f w (entry_at f dir name) b (item_at f w dir (f.stored dir.key name))) is))
         (no_item_unheld f w (entry_at f dir name) (item_at f w dir (f.stored dir.key name)))
 
@@ -113,14 +113,14 @@ step_stays f lawful v gone is_cut path dir name leads = by_name (is_name name) r
 
     by_name : (b : Bool) → is_name name ≡ b → (holds_full f v dir (f.stored dir.key name) ≡ true) ⊎ (holds_full f v dir (f.stored dir.key name) ≡ false)
         → (gone (entry_at f dir name) ≡ true) ⊎ (gone (entry_at f dir name) ≡ false) → AreAlike v (cut gone v) (standing_in f v dir name) (standing_in f (cut gone v) dir name)
-    by_name false is held goes = inr (subst IsNoItem (sym (standing_unnamed f v dir name is)) (record {}), subst IsNoItem (sym (standing_unnamed f (cut gone v) dir name is)) (record {}))
+    by_name false is held goes = inr (subst HasNoItem (sym (standing_unnamed f v dir name is)) (record {}), subst HasNoItem (sym (standing_unnamed f (cut gone v) dir name is)) (record {}))
     by_name true is (inr never) goes = inr (unheld v is never, unheld (cut gone v) is (still_unheld (holds_full f (cut gone v) dir (f.stored dir.key name)) refl never))
     by_name true is (inl held) (inl goes) =
         let no_item : item_at f v dir (f.stored dir.key name) ≡ NoItem SymlinkFound
         = stray_is_no_item f lawful is_cut.knows v is_cut.has dir (path, leads) name (record { named = is; stores = refl; full = held })
         (gone_child f v gone is_cut.are dir.folder (f.stored dir.key name).name (folder_stays f lawful v gone is_cut dir (path, leads)) goes) in
         inr (
-          subst IsNoItem (sym (standing_named f v dir name is
+          subst HasNoItem (sym (standing_named f v dir name is
               ∙ ap (standing_of f v (entry_at f dir name) (holds_full f v dir (f.stored dir.key name))) no_item)) (record {}),
           none_stands f lawful (cut gone v) dir name (went v gone (entry_at f dir name) goes),
         )

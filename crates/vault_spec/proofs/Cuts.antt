@@ -13,7 +13,7 @@ use Rattle.vault_spec.specs.Findings.{IsEntryOf, Belongs, IsUnnamed, IsOrphanNam
 use Rattle.vault_spec.specs.Findings as findings
 use Rattle.vault_spec.specs.declared.Lack.{Lack}
 use Rattle.vault_spec.specs.Format.{Format, Directory, Item, Nothing, FileItem, DirectoryItem, NoItem, Expected, ContentFolder, Extra}
-use Rattle.vault_spec.specs.Moving.{is_moved, IsStray, cut, GoesWith, AreStrays, HasOwnFolders}
+use Rattle.vault_spec.specs.Moving.{is_moved, IsStray, cut, GoesWith, AreStrays, HasSoundFolders}
 use Rattle.vault_spec.specs.Reached.{Leads, IsReached}
 use Rattle.vault_spec.specs.Standing.{Dir, entry_at, holds_full, item_at, root_of, directory_with, standing_of, standing_in}
 use Rattle.vault_spec.proofs.Lawful.{IsLawful}
@@ -78,7 +78,7 @@ stray_place f v at stray = by_finding f v at stray.finding stray.moved stray.fou
 -- what is known of the vault and of what is gone
 pub record IsCut (f : Format) (lawful : IsLawful f) (v : View) (gone : Path → Bool) : Type 0 where
   pub knows : KnowsStrays f lawful
-  pub has : HasOwnFolders f v
+  pub has : HasSoundFolders f v
   pub are : AreStrays f v gone
 
 -- what stays and what goes
@@ -141,7 +141,7 @@ never_inside f lawful knows v dir other reached reached_too a same long item x t
 ]
 
 -- a stray at an entry of a folder is one as an entry
-pub entry_stray : (f : Format) (lawful : IsLawful f) → KnowsStrays f lawful → (v : View) → HasOwnFolders f v → (dir : Directory) → IsReached f v dir → (x : Part)
+pub entry_stray : (f : Format) (lawful : IsLawful f) → KnowsStrays f lawful → (v : View) → HasSoundFolders f v → (dir : Directory) → IsReached f v dir → (x : Part)
     → IsStray f v (child dir.folder x) → EntryStray f v dir x
 entry_stray f lawful knows v has dir reached x stray = by_place (stray_place f v (child dir.folder x) stray)
   where
@@ -169,7 +169,7 @@ same_item f lawful v dir name other reached named other_named same = (
     forms = lawful.forms dir.key other name (reached_right f lawful v reached.0 dir reached.1).is_key other_named named same
 
 -- a stray that is the entry of a name is no item
-pub stray_is_no_item : (f : Format) (lawful : IsLawful f) → KnowsStrays f lawful → (v : View) → HasOwnFolders f v → (dir : Directory) → IsReached f v dir → (name : List ℕ)
+pub stray_is_no_item : (f : Format) (lawful : IsLawful f) → KnowsStrays f lawful → (v : View) → HasSoundFolders f v → (dir : Directory) → IsReached f v dir → (name : List ℕ)
     → IsEntryOf f v dir (f.stored dir.key name).name name → IsStray f v (entry_at f dir name) → item_at f v dir (f.stored dir.key name) ≡ NoItem is.SymlinkFound
 stray_is_no_item f lawful knows v has dir reached name of stray = by_entry (entry_stray f lawful knows v has dir reached (f.stored dir.key name).name stray)
   where

@@ -7,16 +7,16 @@ use Rattle.vault_spec.specs.Standing.{Standing, Absent, Strange, File, Dir, root
 use Rattle.vault_spec.specs.Opens as opens
 use Rattle.vault_spec.specs.Opens.{opened}
 use Rattle.vault_spec.specs.Reached.{Leads}
-use Rattle.vault_spec.specs.Alike.{IsNoItem}
+use Rattle.vault_spec.specs.Alike.{HasNoItem}
 use Rattle.vault_spec.proofs.Steps.{behind_no_item, opens_alike}
 
 pub record HasEmptyRoot (f : Format) (v : View) (top : Directory) : Type 0 where
   pub root : root_of f v ≡ Dir [] (Ok top)
-  pub empty : (name : List ℕ) → IsNoItem (standing_in f v top name)
+  pub empty : (name : List ℕ) → HasNoItem (standing_in f v top name)
 
-pub nothing_stands : (f : Format) (v : View) (top : Directory) → HasEmptyRoot f v top → (name : List ℕ) (rest : plain.Path) → IsNoItem (standing f v (name ∷ rest))
+pub nothing_stands : (f : Format) (v : View) (top : Directory) → HasEmptyRoot f v top → (name : List ℕ) (rest : plain.Path) → HasNoItem (standing f v (name ∷ rest))
 nothing_stands f v top has name rest =
-    subst (λ s. IsNoItem (standing_from f v s (name ∷ rest))) (sym has.root) (behind_no_item f v (standing_in f v top name) rest (has.empty name))
+    subst (λ s. HasNoItem (standing_from f v s (name ∷ rest))) (sym has.root) (behind_no_item f v (standing_in f v top name) rest (has.empty name))
 
 -- so the root is entered, and nothing opens below it
 pub root_entered : (f : Format) (v : View) (top : Directory) → HasEmptyRoot f v top → Leads f v [] top
@@ -36,4 +36,4 @@ only_top f v top has [] dir leads = ap (dir_or dir) (sym leads.stands ∙ has.ro
     dir_or d (File at) = d
     dir_or d (Strange at) = d
     dir_or d Absent = d
-only_top f v top has (name ∷ rest) dir leads = absurd (subst IsNoItem leads.stands (nothing_stands f v top has name rest))
+only_top f v top has (name ∷ rest) dir leads = absurd (subst HasNoItem leads.stands (nothing_stands f v top has name rest))

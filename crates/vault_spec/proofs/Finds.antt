@@ -5,7 +5,7 @@ use Rattle.folder_spec.specs.View.{View}
 use Rattle.plain_tree.specs.Names as plain
 use Rattle.vault_spec.specs.Format.{Format, Directory}
 use Rattle.vault_spec.specs.Standing.{Standing, Absent, Strange, File, Dir, root_of, standing, standing_from, standing_in}
-use Rattle.vault_spec.specs.Alike.{IsNoItem}
+use Rattle.vault_spec.specs.Alike.{HasNoItem}
 use Rattle.vault_spec.specs.Find.{find, find_from, enter, enter_from}
 use Rattle.vault_spec.specs.Reached.{Leads}
 use Rattle.vault_spec.specs.declared.Lack.{Lack}
@@ -25,16 +25,16 @@ found_from f v front (Dir at (Ok dir)) (name ∷ rest) there e = found_from f v 
 
 -- an item that stands there is found
 pub item_from : (f : Format) (v : View) (front : plain.Path) (here : Standing) (path : plain.Path) (there : Standing)
-    → ¬ IsNoItem there → standing_from f v here path ≡ there → find_from f v front here path ≡ Ok there
+    → ¬ HasNoItem there → standing_from f v here path ≡ there → find_from f v front here path ≡ Ok there
 item_from f v front (File at) [] there item e = ap Ok e
 item_from f v front (Dir at directory) [] there item e = ap Ok e
 item_from f v front (Dir at (Ok dir)) (name ∷ rest) there item e = item_from f v (front ++ name ∷ []) (standing_in f v dir name) rest there item e
-item_from f v front (Strange at) [] there item e = absurd (item (subst IsNoItem e (record {})))
-item_from f v front Absent [] there item e = absurd (item (subst IsNoItem e (record {})))
-item_from f v front Absent (name ∷ rest) there item e = absurd (item (subst IsNoItem e (record {})))
-item_from f v front (Strange at) (name ∷ rest) there item e = absurd (item (subst IsNoItem e (record {})))
-item_from f v front (File at) (name ∷ rest) there item e = absurd (item (subst IsNoItem e (record {})))
-item_from f v front (Dir at (Err lack)) (name ∷ rest) there item e = absurd (item (subst IsNoItem e (record {})))
+item_from f v front (Strange at) [] there item e = absurd (item (subst HasNoItem e (record {})))
+item_from f v front Absent [] there item e = absurd (item (subst HasNoItem e (record {})))
+item_from f v front Absent (name ∷ rest) there item e = absurd (item (subst HasNoItem e (record {})))
+item_from f v front (Strange at) (name ∷ rest) there item e = absurd (item (subst HasNoItem e (record {})))
+item_from f v front (File at) (name ∷ rest) there item e = absurd (item (subst HasNoItem e (record {})))
+item_from f v front (Dir at (Err lack)) (name ∷ rest) there item e = absurd (item (subst HasNoItem e (record {})))
 
 -- a directory that is entered stands there
 pub entered_from : (f : Format) (v : View) (front : plain.Path) (here : Standing) (path : plain.Path) (dir : Directory)

@@ -12,7 +12,7 @@ use Rattle.vault_spec.specs.Standing.{entry_at, item_at, standing_of, standing_i
 use Rattle.vault_spec.specs.Reached.{IsReached}
 use Rattle.vault_spec.specs.Findings.{Belongs, IsClean, IsEntryOf}
 use Rattle.vault_spec.specs.Findings as findings
-use Rattle.vault_spec.specs.Alike.{IsNoItem}
+use Rattle.vault_spec.specs.Alike.{HasNoItem}
 use Rattle.vault_spec.specs.Vault.{Vault, format_of}
 use Rattle.vault_spec.proofs.Lawful.{IsLawful}
 use Rattle.vault_spec.proofs.Grafts.{reached_right, standing_named}
@@ -38,7 +38,7 @@ fault_found f v finding at clean found (inr (inr two)) = clean is.TwoKinds at re
 
 -- what is there with a right name is an item
 item_stands : (f : Format) (lawful : IsLawful f) → KnowsEntries f lawful → (v : View) (dir : Directory) (name : List ℕ) → IsClean f v → IsReached f v dir
-    → IsEntryOf f v dir (f.stored dir.key name).name name → v (entry_at f dir name) ≢ NoEntry → ¬ IsNoItem (standing_in f v dir name)
+    → IsEntryOf f v dir (f.stored dir.key name).name name → v (entry_at f dir name) ≢ NoEntry → ¬ HasNoItem (standing_in f v dir name)
 item_stands f lawful knows v dir name clean reached of there none = by_item (item_at f v dir (f.stored dir.key name)) refl
   where
     stands : (item : Item) → item_at f v dir (f.stored dir.key name) ≡ item → standing_in f v dir name ≡ standing_of f v (entry_at f dir name) true item
@@ -49,16 +49,16 @@ item_stands f lawful knows v dir name clean reached of there none = by_item (ite
 
     by_item : (item : Item) → item_at f v dir (f.stored dir.key name) ≡ item → ⊥
     by_item Nothing is = there (ap v (sym (append-nil (entry_at f dir name))) ∙ knows.nothing (is_some (f.stored dir.key name).full) (under (entry_at f dir name) v) is)
-    by_item (FileItem rest) is = subst IsNoItem (stands (FileItem rest) is) none
-    by_item DirectoryItem is = subst IsNoItem (stands DirectoryItem is) none
+    by_item (FileItem rest) is = subst HasNoItem (stands (FileItem rest) is) none
+    by_item DirectoryItem is = subst HasNoItem (stands DirectoryItem is) none
     by_item (NoItem finding) is =
         fault_found f v finding (entry_at f dir name) clean (record { dir = dir; name = name; reached = reached; of = of; place = refl; is = is })
         (knows.faults (is_some (f.stored dir.key name).full) (under (entry_at f dir name) v) finding is)
 
 -- so nothing is at the entry of another
 pub entry_free : (vault : Vault) (lawful : IsLawful (format_of vault)) → KnowsEntries (format_of vault) lawful → (v : View) (dir : Directory) (name : List ℕ)
-    → IsClean (format_of vault) v → IsReached (format_of vault) v dir → IsTrue (is_name name) → IsNoItem (standing_in (format_of vault) v dir name)
-    → ((other : List ℕ) → other ≢ name → ¬ IsNoItem (standing_in (format_of vault) v dir other) → ((format_of vault).stored dir.key other).name ≢ ((format_of vault).stored dir.key name).name)
+    → IsClean (format_of vault) v → IsReached (format_of vault) v dir → IsTrue (is_name name) → HasNoItem (standing_in (format_of vault) v dir name)
+    → ((other : List ℕ) → other ≢ name → ¬ HasNoItem (standing_in (format_of vault) v dir other) → ((format_of vault).stored dir.key other).name ≢ ((format_of vault).stored dir.key name).name)
     → v (entry_at (format_of vault) dir name) ≡ NoEntry
 entry_free vault lawful knows v dir name clean reached named none own = elim (none_or_there (v (entry_at (format_of vault) dir name))) [
   | inl free ↦ free
@@ -73,10 +73,10 @@ entry_free vault lawful knows v dir name clean reached named none own = elim (no
     shared : v (entry_at (format_of vault) dir name) ≢ NoEntry → (other : List ℕ) → ¬ IsEntryOf (format_of vault) v dir ((format_of vault).stored dir.key name).name other
     shared there other of = by_eq (bytes_eq other name) refl
       where
-        other_stands : ¬ IsNoItem (standing_in (format_of vault) v dir other)
+        other_stands : ¬ HasNoItem (standing_in (format_of vault) v dir other)
         other_stands = item_stands (format_of vault) lawful knows v dir other clean reached (record { named = of.named; stores = refl; full = of.full })
             (λ z. there (ap (λ x. v (child dir.folder x)) (sym of.stores) ∙ z))
 
         by_eq : (b : Bool) → bytes_eq other name ≡ b → ⊥
-        by_eq true e = other_stands (subst (λ n. IsNoItem (standing_in (format_of vault) v dir n)) (sym ((bytes_eq-Decides other name).0 e)) none)
+        by_eq true e = other_stands (subst (λ n. HasNoItem (standing_in (format_of vault) v dir n)) (sym ((bytes_eq-Decides other name).0 e)) none)
         by_eq false e = own other (λ same. let yes : bytes_eq other name ≡ true = (bytes_eq-Decides other name).1 same in cc) other_stands of.stores

@@ -22,7 +22,7 @@ use Rattle.vault_spec.specs.Standing.{File, Dir, entry_at, is_file_of, holds, ho
 use Rattle.vault_spec.specs.Opens.{Opened, opened_at, opened_file}
 use Rattle.vault_spec.specs.Opens as opens
 use Rattle.vault_spec.specs.Reached.{Leads}
-use Rattle.vault_spec.specs.Alike.{IsNoItem, HasFolders, IsLeaf}
+use Rattle.vault_spec.specs.Alike.{HasNoItem, HasFolders, IsLeaf}
 use Rattle.vault_spec.proofs.ByteKeys.{none_given}
 use Rattle.vault_spec.proofs.Grafts.{reached_right, edited_adds, none_stands, standing_unnamed}
 use Rattle.vault_spec.proofs.PathEnds.{child-both}
@@ -333,11 +333,11 @@ directory_arrives texts keys u dir name key e named place made is_key held = rec
   opens = ap (opened_at (go_format keys) (edited u e)) (directory_stands keys u dir name key e named place made is_key held);
 }
   where
-    empty : (n : List ℕ) → IsNoItem (standing_in (go_format keys) (edited u e) (record { folder = e.at; key = key }) n)
+    empty : (n : List ℕ) → HasNoItem (standing_in (go_format keys) (edited u e) (record { folder = e.at; key = key }) n)
     empty n = by_name (is_name n) refl
       where
-        by_name : (b : Bool) → is_name n ≡ b → IsNoItem (standing_in (go_format keys) (edited u e) (record { folder = e.at; key = key }) n)
-        by_name false is = subst IsNoItem (sym (standing_unnamed (go_format keys) (edited u e) (record { folder = e.at; key = key }) n is)) (record {})
+        by_name : (b : Bool) → is_name n ≡ b → HasNoItem (standing_in (go_format keys) (edited u e) (record { folder = e.at; key = key }) n)
+        by_name false is = subst HasNoItem (sym (standing_unnamed (go_format keys) (edited u e) (record { folder = e.at; key = key }) n is)) (record {})
         by_name true is = none_stands (go_format keys) (go_lawful texts keys) (edited u e) (record { folder = e.at; key = key }) n (no_entries texts keys u key e made is_key n is)
 
 -- a new file is made so, and so is a new directory

@@ -18,7 +18,7 @@ use Rattle.vault_spec.specs.Gocryptfs.{key_file, directory_key, go_format, is_fu
 use Rattle.vault_spec.specs.Standing.{Dir, entry_at, standing_in, directory_with}
 use Rattle.vault_spec.specs.Findings.{Belongs, IsUnnamed, IsDirectoryItem, IsLocked, IsOrphanName, IsClean}
 use Rattle.vault_spec.specs.Findings as findings
-use Rattle.vault_spec.specs.Alike.{IsNoItem}
+use Rattle.vault_spec.specs.Alike.{HasNoItem}
 use Rattle.vault_spec.specs.Empty.{IsEmptyVault}
 use Rattle.vault_spec.proofs.Grafts.{none_stands, standing_unnamed}
 use Rattle.vault_spec.proofs.StaysClean.{nothing_at}
@@ -54,8 +54,8 @@ empty_root texts keys text key is_key = record {
   empty = λ n. by_name n (is_name n) refl;
 }
   where
-    by_name : (n : List ℕ) (b : Bool) → is_name n ≡ b → IsNoItem (standing_in (go_format keys) (new_root text key) (top_of key) n)
-    by_name n false named = subst IsNoItem (sym (standing_unnamed (go_format keys) (new_root text key) (top_of key) n named)) (record {})
+    by_name : (n : List ℕ) (b : Bool) → is_name n ≡ b → HasNoItem (standing_in (go_format keys) (new_root text key) (top_of key) n)
+    by_name n false named = subst HasNoItem (sym (standing_unnamed (go_format keys) (new_root text key) (top_of key) n named)) (record {})
     by_name n true named = none_stands (go_format keys) (go_lawful texts keys) (new_root text key) (top_of key) n (no_entry texts keys text key is_key n named)
 
 -- what is there belongs
@@ -99,7 +99,7 @@ new_clean texts keys text key is_key = clean
     no_item : (at : Path) (x : Result Directory Lack) → ¬ IsDirectoryItem (go_format keys) (new_root text key) at x
     no_item at x item =
         let top : item.dir ≡ top_of key = only_top (go_format keys) (new_root text key) (top_of key) has item.reached.0 item.dir item.reached.1 in
-        subst IsNoItem (ap (λ d. standing_in (go_format keys) (new_root text key) d item.name) (sym top) ∙ item.stands) (has.empty item.name)
+        subst HasNoItem (ap (λ d. standing_in (go_format keys) (new_root text key) d item.name) (sym top) ∙ item.stands) (has.empty item.name)
 
     no_locked : (lack : Lack) (at : Path) → ¬ IsLocked (go_format keys) (new_root text key) lack at
     no_locked lack at (inl root) = let clash : Dir [] (Ok (top_of key)) ≡ Dir at (Err lack) = sym has.root ∙ root in cc

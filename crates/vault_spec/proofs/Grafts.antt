@@ -15,7 +15,7 @@ use Rattle.vault_spec.specs.declared.Lack.TheVariants.{NoDirKey, NoFolder}
 use Rattle.vault_spec.specs.Format.{Format, Directory, Item, Nothing, FileItem, DirectoryItem, NoItem, is_folder, file_bytes, key_of}
 use Rattle.vault_spec.specs.Standing.{Standing, Absent, Strange, File, Dir, root_of, directory_with, entry_at, is_file_of, holds, holds_full, item_at, standing_of, standing_in, standing_from}
 use Rattle.vault_spec.specs.Reached.{Leads}
-use Rattle.vault_spec.specs.Alike.{IsNoItem, IsSame, HasFolders}
+use Rattle.vault_spec.specs.Alike.{HasNoItem, IsSame, HasFolders}
 use Rattle.vault_spec.proofs.Lawful.{IsLawful}
 
 is_folder_there : (x : Found) → is_folder x ≡ true → x ≡ Folder
@@ -146,12 +146,12 @@ standing_unnamed f v dir name is =
     ap (λ b. cond b (standing_of f v (entry_at f dir name) (holds_full f v dir (f.stored dir.key name)) (item_at f v dir (f.stored dir.key name))) Absent) is
 
 -- no item stands at an entry where nothing is
-pub none_stands : (f : Format) → IsLawful f → (v : View) (dir : Directory) (name : List ℕ) → v (entry_at f dir name) ≡ NoEntry → IsNoItem (standing_in f v dir name)
+pub none_stands : (f : Format) → IsLawful f → (v : View) (dir : Directory) (name : List ℕ) → v (entry_at f dir name) ≡ NoEntry → HasNoItem (standing_in f v dir name)
 none_stands f lawful v dir name free = by_name (is_name name) refl
   where
-    by_name : (b : Bool) → is_name name ≡ b → IsNoItem (standing_in f v dir name)
-    by_name false is = subst IsNoItem (sym (standing_unnamed f v dir name is)) (record {})
-    by_name true is = subst IsNoItem (sym (standing_named f v dir name is
+    by_name : (b : Bool) → is_name name ≡ b → HasNoItem (standing_in f v dir name)
+    by_name false is = subst HasNoItem (sym (standing_unnamed f v dir name is)) (record {})
+    by_name true is = subst HasNoItem (sym (standing_named f v dir name is
         ∙ ap (standing_of f v (entry_at f dir name) (holds_full f v dir (f.stored dir.key name)))
         (lawful.none (is_some (f.stored dir.key name).full) (under (entry_at f dir name) v) (ap v (append-nil (entry_at f dir name)) ∙ free)))) (record {})
 

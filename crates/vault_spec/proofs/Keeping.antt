@@ -13,7 +13,7 @@ use Rattle.vault_spec.specs.declared.Lack.{Lack}
 use Rattle.vault_spec.specs.Format.{Format, Directory, Item, FileItem, NoItem, Extra}
 use Rattle.vault_spec.specs.Standing.{File, Dir, standing_of, root_of, entry_at, holds_full, item_at, standing_in, standing}
 use Rattle.vault_spec.specs.Reached.{Leads}
-use Rattle.vault_spec.specs.Alike.{IsNoItem, AreAlike, LooksAlike, GainsItem, IsOrderly}
+use Rattle.vault_spec.specs.Alike.{HasNoItem, AreAlike, LooksAlike, GainsItem, IsOrderly}
 use Rattle.vault_spec.specs.Opens.{Opened}
 use Rattle.vault_spec.proofs.Lawful.{IsLawful}
 use Rattle.vault_spec.proofs.Steps.{along, gains_alike}
@@ -34,7 +34,7 @@ free_is_apart f v folder free path dir name at d leads stands same =
 pub apart_on : (f : Format) (v w : View) (folder : Path) → LooksAlike f v w → IsApart f v folder → IsApart f w folder
 apart_on f v w folder looks apart path dir name at d leads stands = elim (looks.steps path dir name (led_back f v w looks path dir leads)) [
   | inl same ↦ apart path dir name at d (led_back f v w looks path dir leads) (same.stands ∙ stands)
-  | inr none ↦ absurd (subst IsNoItem stands none.1)
+  | inr none ↦ absurd (subst HasNoItem stands none.1)
 ]
 
 pub side_keeps : (f : Format) (lawful : IsLawful f) (v : View) (e : Edit) → IsOrderly f v → IsSide f lawful v e → HasPlace f v e
@@ -50,11 +50,11 @@ side_keeps f lawful v e orderly side has placed = record {
   whole = λ path dir name leads named here held. absurd (side.no_entry path dir name leads named here);
   unlocked = λ path dir name at lack leads locked. elim (looks.steps path dir name leads) [
     | inl same ↦ orderly.entered path dir name at lack leads (same.stands ∙ locked)
-    | inr none ↦ absurd (subst IsNoItem locked none.1)
+    | inr none ↦ absurd (subst HasNoItem locked none.1)
   ];
   stands = λ path dir name at d leads stands_now. elim (looks.steps path dir name leads) [
     | inl same ↦ inl (same.stands ∙ stands_now)
-    | inr none ↦ absurd (subst IsNoItem stands_now none.1)
+    | inr none ↦ absurd (subst HasNoItem stands_now none.1)
   ];
   has = has;
 }
@@ -104,11 +104,11 @@ item_keeps f lawful v front dir name e opened orderly new spares arrives has bri
 
     on : (path : plain.Path) (d : Directory) → Leads f v path d → Leads f (edited v e) path d
     on path d leads = elim (one_or_not path (front ++ name ∷ [])) [
-      | inl here ↦ absurd (subst IsNoItem (sym (along f v (root_of f v) dir new.leads.at front name new.leads.stands) ∙ ap (standing f v) (sym here) ∙ leads.stands)
+      | inl here ↦ absurd (subst HasNoItem (sym (along f v (root_of f v) dir new.leads.at front name new.leads.stands) ∙ ap (standing f v) (sym here) ∙ leads.stands)
           (none_stands f lawful v dir name new.free))
       | inr apart ↦ elim (gains_alike f v (edited v e) front name gains path apart.0) [
         | inl same ↦ record { at = leads.at; stands = sym same.stands ∙ leads.stands }
-        | inr none ↦ absurd (subst IsNoItem leads.stands none.0)
+        | inr none ↦ absurd (subst HasNoItem leads.stands none.0)
       ]
     ]
 
@@ -118,7 +118,7 @@ item_keeps f lawful v front dir name e opened orderly new spares arrives has bri
           ∙ ap (standing f (edited v e)) (sym here) ∙ leads.stands)).2
       | inr apart ↦ elim (gains_alike f v (edited v e) front name gains path apart.0) [
         | inl same ↦ inl (record { at = leads.at; stands = same.stands ∙ leads.stands })
-        | inr none ↦ absurd (subst IsNoItem leads.stands none.1)
+        | inr none ↦ absurd (subst HasNoItem leads.stands none.1)
       ]
     ]
 
@@ -174,7 +174,7 @@ item_keeps f lawful v front dir name e opened orderly new spares arrives has bri
       | inr its ↦ brings.unlocked at lack (sym its ∙ locked)
       | inl alike ↦ elim alike [
         | inl same ↦ orderly.entered path other n at lack leads (same.stands ∙ locked)
-        | inr none ↦ absurd (subst IsNoItem locked none.1)
+        | inr none ↦ absurd (subst HasNoItem locked none.1)
       ]
     ]
 
@@ -186,7 +186,7 @@ item_keeps f lawful v front dir name e opened orderly new spares arrives has bri
           inr (parts.0, parts.1)
       | inl alike ↦ elim alike [
         | inl same ↦ inl (same.stands ∙ now)
-        | inr none ↦ absurd (subst IsNoItem now none.1)
+        | inr none ↦ absurd (subst HasNoItem now none.1)
       ]
     ]
 

@@ -4,7 +4,7 @@ use Rattle.folder_spec.specs.View.{NoEntry, Folder, View}
 use Rattle.folder_spec.specs.Edit.{Edit, edited}
 use Rattle.vault_spec.specs.Format.{Format, is_file}
 use Rattle.vault_spec.specs.Staying.{LoadsAlike}
-use Rattle.vault_spec.specs.Vault.{Answer, Either, OfFile, TestsGo, TestsCm, LoadsGo, LoadsCm, LoadsBy, LoadsFrom, go_conf, master_file, vault_file}
+use Rattle.vault_spec.specs.Vault.{Loaded, Either, OfFile, TestsGo, TestsCm, LoadsGo, LoadsCm, LoadsBy, LoadsFrom, go_conf, master_file, vault_file}
 use Rattle.vault_spec.proofs.Lawful.{SparesConfiguration}
 use Rattle.vault_spec.proofs.Grafts.{edited_entry}
 use Rattle.vault_spec.proofs.Places.{IsRooted, top_stays}
@@ -17,7 +17,7 @@ pub record HaveOneConfiguration (v w : View) : Type 0 where
   pub master : w master_file ≡ v master_file
   pub vault : w vault_file ≡ v vault_file
 
-loads_by : (v w : View) (pass : List ℕ) (answer : Answer) → HaveOneConfiguration v w → LoadsBy (v go_conf) (v vault_file) v pass answer → LoadsBy (w go_conf) (w vault_file) w pass answer
+loads_by : (v w : View) (pass : List ℕ) (answer : Loaded) → HaveOneConfiguration v w → LoadsBy (v go_conf) (v vault_file) v pass answer → LoadsBy (w go_conf) (w vault_file) w pass answer
 loads_by v w pass answer same loads =
     subst (λ x. Either (not (is_file x) && is_file (w vault_file)) (LoadsCm w pass answer) (OfFile go_conf x answer (λ bytes. TestsGo bytes pass answer))) (sym same.gocryptfs)
     (subst (λ x. Either (not (is_file (v go_conf)) && is_file x) (OfFile master_file (w master_file) answer (λ master. OfFile vault_file x answer (λ bytes. TestsCm master bytes pass answer))) (LoadsGo v pass answer)) (sym same.vault)

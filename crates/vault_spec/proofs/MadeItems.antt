@@ -13,7 +13,7 @@ use Rattle.vault_spec.specs.Standing.{Standing, Absent, Strange, File, Dir, root
 use Rattle.vault_spec.specs.Opens.{Opened, opened, opened_at, opened_file}
 use Rattle.vault_spec.specs.Opens as opens
 use Rattle.vault_spec.specs.Reached.{Leads}
-use Rattle.vault_spec.specs.Alike.{IsNoItem, HasFolders, IsOrderly, IsLeaf, GainsItem}
+use Rattle.vault_spec.specs.Alike.{HasNoItem, HasFolders, IsOrderly, IsLeaf, GainsItem}
 use Rattle.vault_spec.specs.Adding.{OpensAs, ComesAlone, NewItemsComeAlone}
 use Rattle.vault_spec.specs.Anywhere.{ComesAtLast, KeepsEntered, NewItemsComeAtLast}
 use Rattle.vault_spec.specs.Staying.{LoadsAlike, StaysVault, NewItemsStayVaults}
@@ -89,7 +89,7 @@ its_folder f v s own at d is = subst (HasOwnFolder f v) is own
 not_locked : (f : Format) (v : View) (s : Standing) → HasOwnFolder f v s → (at : Path) (lack : Lack) → s ≢ Dir at (Err lack)
 not_locked f v s own at lack is = subst (HasOwnFolder f v) is own
 
-nothing_in : (f : Format) (w : View) (s : Standing) → IsLeaf f w s → (at : Path) (d : Directory) → s ≡ Dir at (Ok d) → (name : List ℕ) → IsNoItem (standing_in f w d name)
+nothing_in : (f : Format) (w : View) (s : Standing) → IsLeaf f w s → (at : Path) (d : Directory) → s ≡ Dir at (Ok d) → (name : List ℕ) → HasNoItem (standing_in f w d name)
 nothing_in f w s leaf at d is = subst (IsLeaf f w) is leaf
 
 last_orderly : (f : Format) (lawful : IsLawful f) (first v : View) (front : plain.Path) (dir : Directory) (name : List ℕ) (item : Opened) (e : Edit)
@@ -132,7 +132,7 @@ last_orderly f lawful first v front dir name item e orderly back last = record {
       | inl here ↦ inr (here, leads.at, sym at_item ∙ ap (standing f (edited v e)) (sym here) ∙ leads.stands)
       | inr apart ↦ elim (gains_alike f v (edited v e) front name gains path apart.0) [
         | inl same ↦ inl (record { at = leads.at; stands = same.stands ∙ leads.stands })
-        | inr none ↦ absurd (subst IsNoItem leads.stands none.1)
+        | inr none ↦ absurd (subst HasNoItem leads.stands none.1)
       ]
     ]
 
@@ -142,13 +142,13 @@ last_orderly f lawful first v front dir name item e orderly back last = record {
 
     entered : (path : plain.Path) (d : Directory) (n : List ℕ) (at : Path) (lack : Lack) → Leads f (edited v e) path d → standing_in f (edited v e) d n ≢ Dir at (Err lack)
     entered path d n at lack leads locked = elim (where_led path d leads) [
-      | inr item_is ↦ subst IsNoItem locked (nothing_in f (edited v e) (standing_in f (edited v e) dir name) last.arrives.leaf item_is.1 d item_is.2 n)
+      | inr item_is ↦ subst HasNoItem locked (nothing_in f (edited v e) (standing_in f (edited v e) dir name) last.arrives.leaf item_is.1 d item_is.2 n)
       | inl old ↦ elim (one_or_not (path ++ n ∷ []) (front ++ name ∷ [])) [
         | inl here ↦ not_locked f first (standing_in f (edited v e) dir name) last.own at lack
             (sym at_item ∙ ap (standing f (edited v e)) (sym here) ∙ along f (edited v e) (root_of f (edited v e)) d (on path d old).at path n (on path d old).stands ∙ locked)
         | inr apart ↦ elim (gains.others path d n old apart.0) [
           | inl same ↦ orderly.entered path d n at lack old (same.stands ∙ locked)
-          | inr none ↦ subst IsNoItem locked none.1
+          | inr none ↦ subst HasNoItem locked none.1
         ]
       ]
     ]

@@ -1,6 +1,6 @@
 -- A tree is held in its mapped tree, of which there is one.
 use Rattle.std.proofs.Common.{◌≡◌, ◌≢◌, ◌⊎◌, [], ◌∷◌, refl, sym, ◌∙◌, inl, inr, subst}
-use Rattle.vault_spec.specs.Mapped.{HasNoBroken, IsHeldIn, IsMapped, IsMappedItem, IsPartOf, IsWhole}
+use Rattle.vault_spec.specs.Mapped.{HasNoBroken, IsHeldIn, IsMapped, IsMappedItem, IsPartOfMapped, IsWhole}
 use Rattle.plain_tree.specs.Mapped.{mapped_path}
 use Rattle.plain_tree.specs.Names.{Path}
 use Rattle.plain_tree.specs.declared.name_map.NameMap.{NameMap}
@@ -32,10 +32,10 @@ one names m t u first second path = elim (none_or_item (t path)) [
 pub held : (names : NameMap) (m t : Tree) → IsMapped names m t → HasNoBroken m → IsHeldIn names m t
 held names m t is whole path named item = (is.each path item, whole path)
 
-pub part : (names : NameMap) (m t : Tree) → IsMapped names m t → HasNoBroken m → IsPartOf names t m
+pub part : (names : NameMap) (m t : Tree) → IsMapped names m t → HasNoBroken m → IsPartOfMapped names t m
 part names m t is whole path named item = let x = is.only path item in (x, subst IsWhole x.is (whole x.from))
 
-pub both : (names : NameMap) (m t : Tree) → t [] ≡ m [] → IsHeldIn names m t → IsPartOf names t m → IsMapped names m t
+pub both : (names : NameMap) (m t : Tree) → t [] ≡ m [] → IsHeldIn names m t → IsPartOfMapped names t m → IsMapped names m t
 both names m t root held part = record { each = each; only = only }
   where
     each : (path : Path) → m path ≢ NoItem → t (mapped_path names path) ≡ m path

@@ -2,7 +2,7 @@
 use Rattle.std.specs.Prelude.{◌↔◌}
 use Rattle.std.proofs.Common.{◌≡◌, ◌≢◌, [], sym, ap, ◌∙◌, inl, inr, subst}
 use Rattle.vault_spec.proofs.MappedHeld.{none_or_item}
-use Rattle.vault_spec.specs.Mapped.{IsHeldIn, IsMapped, IsPartOf, IsWhole, StaysApart}
+use Rattle.vault_spec.specs.Mapped.{IsHeldIn, IsMapped, IsPartOfMapped, IsWhole, StaysApart}
 use Rattle.plain_tree.specs.Mapped.{mapped_path}
 use Rattle.plain_tree.specs.Names.{Path}
 use Rattle.plain_tree.specs.declared.name_map.NameMap.TheVariants.{Same}
@@ -24,7 +24,7 @@ module _ (stay : (path : Path) → mapped_path Same path ≡ path) where
         ]
       ]
 
-  pub part : (m t : Tree) → IsPartOf Same t m ↔ ((path : Path) → path ≢ [] → t path ≢ NoItem → (t path ≡ m path) × IsWhole (t path))
+  pub part : (m t : Tree) → IsPartOfMapped Same t m ↔ ((path : Path) → path ≢ [] → t path ≢ NoItem → (t path ≡ m path) × IsWhole (t path))
   part m t = (
     λ is path named item. let x = is path named item in (sym x.0.is ∙ ap m (sym (stay x.0.from) ∙ x.0.comes), x.1),
     λ is path named item. let x = is path named item in (record { from = path; comes = stay path; is = sym x.0 }, x.1),

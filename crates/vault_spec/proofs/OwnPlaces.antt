@@ -10,7 +10,7 @@ use Rattle.plain_tree.specs.Names.{is_name}
 use Rattle.vault_spec.specs.Format.{Format, Directory, Item, Nothing, FileItem, DirectoryItem, NoItem}
 use Rattle.vault_spec.specs.Standing.{Standing, Absent, Strange, File, Dir, root_of, entry_at, holds_full, item_at, standing_of, standing_in, standing_from, standing}
 use Rattle.vault_spec.specs.Reached.{Leads}
-use Rattle.vault_spec.specs.Alike.{IsNoItem, IsOrderly, place_of, HaveOwnPlaces}
+use Rattle.vault_spec.specs.Alike.{HasNoItem, IsOrderly, place_of, HaveOwnPlaces}
 use Rattle.vault_spec.proofs.Lawful.{IsLawful}
 use Rattle.vault_spec.proofs.Grafts.{IsRight, reached_right, standing_named, standing_unnamed}
 use Rattle.vault_spec.proofs.PathEnds.{child-both}
@@ -107,7 +107,7 @@ one_of_place f lawful v orderly p q a b place one two = (orderly.one_path p q on
     dirs : one.dir ≡ two.dir
     dirs = orderly.own_folder one.dir two.dir (p, leads) (q, leads_too) both.0
 
-    has_place : (s : Standing) → place_of s ≡ Some place → IsNoItem s → ⊥
+    has_place : (s : Standing) → place_of s ≡ Some place → HasNoItem s → ⊥
     has_place Absent e none = cc
     has_place (Strange at) e none = cc
     has_place (File at) e none = none

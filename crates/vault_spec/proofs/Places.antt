@@ -17,7 +17,7 @@ use Rattle.vault_spec.specs.Opens.{Opened, opened_at}
 use Rattle.vault_spec.specs.Adding.{OpensAs, OpensWith}
 use Rattle.vault_spec.specs.Anywhere.{KeepsEntered}
 use Rattle.vault_spec.specs.Reached.{Leads}
-use Rattle.vault_spec.specs.Alike.{IsNoItem, AreAlike, LooksAlike, IsLeaf, GainsItem, HasFolders, IsOrderly}
+use Rattle.vault_spec.specs.Alike.{HasNoItem, AreAlike, LooksAlike, IsLeaf, GainsItem, HasFolders, IsOrderly}
 use Rattle.vault_spec.proofs.Lawful.{IsLawful, SparesConfiguration}
 use Rattle.vault_spec.proofs.Steps.{along, standing_alike, gained, gained_there}
 use Rattle.vault_spec.proofs.Grafts.{reached_right, nothing_below, edited_adds, edited_entry, none_stands, standing_named, standing_unnamed, same_directory, SparesEntry, stands_on}
@@ -97,7 +97,7 @@ step_leads f lawful v e rooted free spares path dir name at d leads stands = by_
     by_name : (b : Bool) → is_name name ≡ b → standing_in f (edited v e) dir name ≡ Dir at (Ok d)
     by_name false is = let clash : Absent ≡ Dir at (Ok d) = sym (standing_unnamed f v dir name is) ∙ stands in cc
     by_name true is = elim (none_or_there (v (entry_at f dir name))) [
-      | inl none ↦ absurd (subst IsNoItem stands (none_stands f lawful v dir name none))
+      | inl none ↦ absurd (subst HasNoItem stands (none_stands f lawful v dir name none))
       | inr there ↦ sym (stands_on f lawful v e path dir name rooted.folders (λ a lack locked. let clash : Dir at (Ok d) ≡ Dir a (Err lack) = sym stands ∙ locked in cc)
           free leads there (spares.entries path dir name leads is there)).stands ∙ stands
     ]
@@ -130,7 +130,7 @@ step_stays : (f : Format) (lawful : IsLawful f) (v : View) (e : Edit) → IsOrde
 step_stays f lawful v e orderly free spares path dir name leads apart = by_name (is_name name) refl
   where
     by_name : (b : Bool) → is_name name ≡ b → AreAlike v (edited v e) (standing_in f v dir name) (standing_in f (edited v e) dir name)
-    by_name false is = inr (subst IsNoItem (sym (standing_unnamed f v dir name is)) (record {}), subst IsNoItem (sym (standing_unnamed f (edited v e) dir name is)) (record {}))
+    by_name false is = inr (subst HasNoItem (sym (standing_unnamed f v dir name is)) (record {}), subst HasNoItem (sym (standing_unnamed f (edited v e) dir name is)) (record {}))
     by_name true is = elim (none_or_there (v (entry_at f dir name))) [
       | inl none ↦ inr (
         none_stands f lawful v dir name none,
@@ -151,13 +151,13 @@ looks_alike f lawful v e orderly free spares no_entry = record {
 pub led_back : (f : Format) (v w : View) → LooksAlike f v w → (path : plain.Path) (dir : Directory) → Leads f w path dir → Leads f v path dir
 led_back f v w looks path dir leads = elim (standing_alike f v w looks path) [
   | inl same ↦ record { at = leads.at; stands = same.stands ∙ leads.stands }
-  | inr none ↦ absurd (subst IsNoItem leads.stands none.1)
+  | inr none ↦ absurd (subst HasNoItem leads.stands none.1)
 ]
 
 pub led_on : (f : Format) (v w : View) → LooksAlike f v w → (path : plain.Path) (dir : Directory) → Leads f v path dir → Leads f w path dir
 led_on f v w looks path dir leads = elim (standing_alike f v w looks path) [
   | inl same ↦ record { at = leads.at; stands = sym same.stands ∙ leads.stands }
-  | inr none ↦ absurd (subst IsNoItem leads.stands none.0)
+  | inr none ↦ absurd (subst HasNoItem leads.stands none.0)
 ]
 
 -- and the vault stays orderly
@@ -169,7 +169,7 @@ stays_orderly f v w orderly looks folders root_there = record {
   folders = folders;
   entered = λ path dir name at lack leads locked. elim (looks.steps path dir name (led_back f v w looks path dir leads)) [
     | inl same ↦ orderly.entered path dir name at lack (led_back f v w looks path dir leads) (same.stands ∙ locked)
-    | inr none ↦ absurd (subst IsNoItem locked none.1)
+    | inr none ↦ absurd (subst HasNoItem locked none.1)
   ];
   one_path = λ path other dir one two. orderly.one_path path other dir (led_back f v w looks path dir one) (led_back f v w looks other dir two);
   own_folder = λ dir other one two. orderly.own_folder dir other (one.0, led_back f v w looks one.0 dir one.1) (two.0, led_back f v w looks two.0 other two.1);
@@ -238,7 +238,7 @@ one_text w at (Some a) (Some b) same one other = by_file (file_bytes (w at)) one
         ap Some (sym first ∙ second)
 
 -- no item stands at an entry without its long-name file
-pub no_item_unheld : (f : Format) (w : View) (at : Path) (item : Item) → IsNoItem (standing_of f w at false item)
+pub no_item_unheld : (f : Format) (w : View) (at : Path) (item : Item) → HasNoItem (standing_of f w at false item)
 no_item_unheld f w at Nothing = record {}
 no_item_unheld f w at (FileItem rest) = record {}
 no_item_unheld f w at DirectoryItem = record {}
@@ -247,7 +247,7 @@ no_item_unheld f w at (NoItem finding) = record {}
 -- another name of the same entry has none
 pub other_name : (f : Format) (lawful : IsLawful f) (w : View) (dir : Directory) (name other : List ℕ) → IsTrue (lawful.is_key dir.key) → IsTrue (is_name name) → IsTrue (is_name other)
     → (f.stored dir.key other).name ≡ (f.stored dir.key name).name → holds_full f w dir (f.stored dir.key name) ≡ true → other ≢ name
-    → IsNoItem (standing_in f w dir other)
+    → HasNoItem (standing_in f w dir other)
 other_name f lawful w dir name other key named other_named same held apart =
     by_held (holds_full f w dir (f.stored dir.key other)) refl
   where
@@ -265,10 +265,10 @@ other_name f lawful w dir name other key named other_named same held apart =
     record_of : (s t : Stored) → s.name ≡ t.name → s.full ≡ t.full → s ≡ t
     record_of s t names fulls = ap (λ n. stored_as n s.full) names ∙ ap (stored_as t.name) fulls
 
-    by_held : (b : Bool) → holds_full f w dir (f.stored dir.key other) ≡ b → IsNoItem (standing_in f w dir other)
+    by_held : (b : Bool) → holds_full f w dir (f.stored dir.key other) ≡ b → HasNoItem (standing_in f w dir other)
     by_held true is = absurd (apart (lawful.one_name dir.key other name key other_named named
         (record_of (f.stored dir.key other) (f.stored dir.key name) same (texts is))))
-    by_held false is = subst IsNoItem (sym (standing_named f w dir other other_named
+    by_held false is = subst HasNoItem (sym (standing_named f w dir other other_named
         ∙ ap (λ b. standing_of f w (entry_at f dir other) b (item_at f w dir (f.stored dir.key other))) is))
         (no_item_unheld f w (entry_at f dir other) (item_at f w dir (f.stored dir.key other)))
 
@@ -288,19 +288,19 @@ brings_item f lawful v e front dir name b = record {
         child-last dir.folder (f.stored dir.key n).name (f.stored dir.key name).name (ap (λ d. entry_at f d n) (sym one) ∙ here)
 
     by_other : (path : plain.Path) (n : List ℕ) → Leads f v path dir → path ++ n ∷ [] ≢ front ++ name ∷ [] → is_name n ≡ true
-        → (f.stored dir.key n).name ≡ (f.stored dir.key name).name → IsNoItem (standing_in f (edited v e) dir n)
+        → (f.stored dir.key n).name ≡ (f.stored dir.key name).name → HasNoItem (standing_in f (edited v e) dir n)
     by_other path n leads apart named same =
         other_name f lawful (edited v e) dir name n b.is_key b.named named same b.full
         (λ one. apart (ap (λ p. p ++ n ∷ []) (b.orderly.one_path path front dir leads b.leads) ∙ ap (λ m. front ++ m ∷ []) one))
 
     at_place : (t : Bool) (path : plain.Path) (other : Directory) (n : List ℕ) → is_name n ≡ t → Leads f v path other → path ++ n ∷ [] ≢ front ++ name ∷ []
-        → entry_at f other n ≡ e.at → IsNoItem (standing_in f (edited v e) other n)
-    at_place false path other n is leads apart here = subst IsNoItem (sym (standing_unnamed f (edited v e) other n is)) (record {})
+        → entry_at f other n ≡ e.at → HasNoItem (standing_in f (edited v e) other n)
+    at_place false path other n is leads apart here = subst HasNoItem (sym (standing_unnamed f (edited v e) other n is)) (record {})
     at_place true path other n is leads apart here =
         let entries : entry_at f other n ≡ entry_at f dir name = here ∙ sym b.place in
         let one : other ≡ dir = b.orderly.own_folder other dir (path, leads) (front, b.leads)
         (child-injective other.folder dir.folder (f.stored other.key n).name (f.stored dir.key name).name entries) in
-        subst (λ d. IsNoItem (standing_in f (edited v e) d n)) (sym one)
+        subst (λ d. HasNoItem (standing_in f (edited v e) d n)) (sym one)
         (by_other path n (subst (λ d. Leads f v path d) one leads) apart is (same_name n other one entries))
 
     others : (path : plain.Path) (other : Directory) (n : List ℕ) → Leads f v path other → path ++ n ∷ [] ≢ front ++ name ∷ []

@@ -16,7 +16,7 @@ use Rattle.vault_spec.specs.Standing.{Standing, Absent, Strange, File, Dir, root
 use Rattle.vault_spec.specs.Opens.{opened, opened_at}
 use Rattle.vault_spec.specs.Adding.{OpensAs}
 use Rattle.vault_spec.specs.Reached.{Leads}
-use Rattle.vault_spec.specs.Alike.{IsNoItem, AreAlike, IsEmptyIn}
+use Rattle.vault_spec.specs.Alike.{HasNoItem, AreAlike, IsEmptyIn}
 use Rattle.vault_spec.proofs.Lawful.{IsLawful}
 use Rattle.vault_spec.proofs.Steps.{along, behind_no_item, opens_alike}
 use Rattle.vault_spec.proofs.Grafts.{reached_right, edited_adds, edited_entry, none_stands, standing_named, standing_unnamed, EntryStays, entry_stays, IsEntered, is_entered, stands_on}
@@ -43,11 +43,11 @@ opens_there f v w one other (inr still) = ap (opened_at f v) still.was ∙ sym (
 behind_still : (f : Format) (v w : View) (one other : Standing) (rest : plain.Path) → IsStillADirectory f w one other → OpenAlike f v w (standing_from f v one rest) (standing_from f w other rest)
 behind_still f v w one other [] still = inr still
 behind_still f v w one other (n ∷ rest) still = inl (inr (
-  subst (λ s. IsNoItem (standing_from f v s (n ∷ rest))) (sym still.was) (record {}),
-  subst (λ s. IsNoItem (standing_from f w s (n ∷ rest))) (sym still.now) (in_it still.directory still.empty),
+  subst (λ s. HasNoItem (standing_from f v s (n ∷ rest))) (sym still.was) (record {}),
+  subst (λ s. HasNoItem (standing_from f w s (n ∷ rest))) (sym still.now) (in_it still.directory still.empty),
 ))
   where
-    in_it : (directory : Result Directory Lack) → IsEmptyIn f w directory → IsNoItem (standing_from f w (Dir still.at directory) (n ∷ rest))
+    in_it : (directory : Result Directory Lack) → IsEmptyIn f w directory → HasNoItem (standing_from f w (Dir still.at directory) (n ∷ rest))
     in_it (Ok dir) empty = behind_no_item f w (standing_in f w dir n) rest (empty n)
     in_it (Err lack) empty = record {}
 
@@ -77,7 +77,7 @@ locked_or_not (File place) = inr (λ at lack e. cc)
 locked_or_not (Dir place (Ok dir)) = inr (λ at lack e. cc)
 locked_or_not (Dir place (Err lack)) = inl (place, lack, refl)
 
-empty_in : (f : Format) (w : View) (directory : Result Directory Lack) → ((dir : Directory) → directory ≡ Ok dir → (name : List ℕ) → IsNoItem (standing_in f w dir name)) → IsEmptyIn f w directory
+empty_in : (f : Format) (w : View) (directory : Result Directory Lack) → ((dir : Directory) → directory ≡ Ok dir → (name : List ℕ) → HasNoItem (standing_in f w dir name)) → IsEmptyIn f w directory
 empty_in f w (Ok dir) empty = empty dir refl
 empty_in f w (Err lack) empty = record {}
 
@@ -91,7 +91,7 @@ entered_there f v at dir lack form there locked =
 
 -- a folder that comes is empty
 folder_empty : (f : Format) (lawful : IsLawful f) (v : View) (e : Edit) → IsSide f lawful v e → (at : Path) (key : Option (List ℕ)) (lack : Lack) (dir : Directory)
-    → directory_with f v at key ≡ Err lack → directory_with f (edited v e) at key ≡ Ok dir → (name : List ℕ) → IsNoItem (standing_in f (edited v e) dir name)
+    → directory_with f v at key ≡ Err lack → directory_with f (edited v e) at key ≡ Ok dir → (name : List ℕ) → HasNoItem (standing_in f (edited v e) dir name)
 folder_empty f lawful v e side at key lack dir locked now name =
     none_stands f lawful (edited v e) dir name (elim (none_or_there (v dir.folder)) [
       | inr there ↦ absurd (was_not (sym (edited_adds v e side.rooted.folders side.free dir.folder there) ∙ entered.there))
@@ -131,7 +131,7 @@ side_step f lawful v e side path dir name leads = by_name (is_name name) refl
         }
 
     by_name : (b : Bool) → is_name name ≡ b → OpenAlike f v (edited v e) (standing_in f v dir name) (standing_in f (edited v e) dir name)
-    by_name false is = inl (inr (subst IsNoItem (sym (standing_unnamed f v dir name is)) (record {}), subst IsNoItem (sym (standing_unnamed f (edited v e) dir name is)) (record {})))
+    by_name false is = inl (inr (subst HasNoItem (sym (standing_unnamed f v dir name is)) (record {}), subst HasNoItem (sym (standing_unnamed f (edited v e) dir name is)) (record {})))
     by_name true is = elim (none_or_there (v (entry_at f dir name))) [
       | inl none ↦ inl (inr (
         none_stands f lawful v dir name none,

@@ -17,7 +17,7 @@ use Rattle.vault_spec.specs.Standing.{Dir, root_of, directory_with, entry_at, is
 use Rattle.vault_spec.specs.Reached.{Leads}
 use Rattle.vault_spec.specs.Findings.{IsEntryOf, Belongs, IsUnnamed, IsDirectoryItem, IsLocked, IsFullTextOf, IsOrphanName, IsTwice, IsFixed, IsOrphanFolder, IsInside, IsExtra, IsFinding, IsClean}
 use Rattle.vault_spec.specs.Findings as findings
-use Rattle.vault_spec.specs.Alike.{IsNoItem, IsOrderly}
+use Rattle.vault_spec.specs.Alike.{HasNoItem, IsOrderly}
 use Rattle.vault_spec.specs.Adding.{StaysClean, NewItemsStayClean}
 use Rattle.vault_spec.proofs.Lawful.{IsLawful}
 use Rattle.vault_spec.proofs.Grafts.{reached_right, nothing_below, edited_adds, none_stands, EntryStays, entry_stays, IsEntered, is_entered}
@@ -188,11 +188,11 @@ record StandsOn (f : Format) (v : View) (e : Edit) (at : Path) (x : Result Direc
 
 stands_on_as : (f : Format) (lawful : IsLawful f) (v : View) (e : Edit) → KeepsClean f lawful v e → (at : Path) (x : Result Directory Lack) → IsDirectoryItem f (edited v e) at x → StandsOn f v e at x
 stands_on_as f lawful v e keeps at (Err lack) item = elim (keeps.back item.reached.0 item.dir item.reached.1) [
-  | inr bare ↦ absurd (subst IsNoItem item.stands (none_stands f lawful (edited v e) item.dir item.name (bare.entries item.name (stands_as f (edited v e) item.dir item.name at (Err lack) item.stands).named)))
+  | inr bare ↦ absurd (subst HasNoItem item.stands (none_stands f lawful (edited v e) item.dir item.name (bare.entries item.name (stands_as f (edited v e) item.dir item.name at (Err lack) item.stands).named)))
   | inl leads ↦ absurd (keeps.unlocked item.reached.0 item.dir item.name at lack leads item.stands)
 ]
 stands_on_as f lawful v e keeps at (Ok d) item = elim (keeps.back item.reached.0 item.dir item.reached.1) [
-  | inr bare ↦ absurd (subst IsNoItem item.stands (none_stands f lawful (edited v e) item.dir item.name (bare.entries item.name (stands_as f (edited v e) item.dir item.name at (Ok d) item.stands).named)))
+  | inr bare ↦ absurd (subst HasNoItem item.stands (none_stands f lawful (edited v e) item.dir item.name (bare.entries item.name (stands_as f (edited v e) item.dir item.name at (Ok d) item.stands).named)))
   | inl leads ↦ record {
     d = d;
     entered = refl;

@@ -8,7 +8,7 @@ use Rattle.vault_spec.specs.Format.{Format, Directory, file_bytes}
 use Rattle.vault_spec.specs.Standing.{Standing, Absent, Strange, File, Dir, root_of, standing_in, standing_from, standing}
 use Rattle.vault_spec.specs.Opens.{NoItem, opened, opened_at, opened_file}
 use Rattle.vault_spec.specs.Reached.{Leads}
-use Rattle.vault_spec.specs.Alike.{IsNoItem, AreAlike, LooksAlike, IsLeaf, GainsItem}
+use Rattle.vault_spec.specs.Alike.{HasNoItem, AreAlike, LooksAlike, IsLeaf, GainsItem}
 
 -- behind the first names of a path
 pub along : (f : Format) (v : View) (here : Standing) (dir : Directory) (at : Path) (front : plain.Path) (name : List ℕ)
@@ -21,7 +21,7 @@ along f v (Strange a) dir at (n ∷ front) name h = cc
 along f v Absent dir at (n ∷ front) name h = cc
 
 -- nothing stands behind what is no item
-pub behind_no_item : (f : Format) (v : View) (s : Standing) (rest : plain.Path) → IsNoItem s → IsNoItem (standing_from f v s rest)
+pub behind_no_item : (f : Format) (v : View) (s : Standing) (rest : plain.Path) → HasNoItem s → HasNoItem (standing_from f v s rest)
 behind_no_item f v s [] none = none
 behind_no_item f v Absent (n ∷ rest) none = none
 behind_no_item f v (Strange at) (n ∷ rest) none = none
@@ -29,7 +29,7 @@ behind_no_item f v (File at) (n ∷ rest) none = absurd none
 behind_no_item f v (Dir at d) (n ∷ rest) none = absurd none
 
 -- nothing stands behind a leaf
-behind_leaf : (f : Format) (w : View) (s : Standing) (n : List ℕ) (rest : plain.Path) → IsLeaf f w s → IsNoItem (standing_from f w s (n ∷ rest))
+behind_leaf : (f : Format) (w : View) (s : Standing) (n : List ℕ) (rest : plain.Path) → IsLeaf f w s → HasNoItem (standing_from f w s (n ∷ rest))
 behind_leaf f w (File at) n rest leaf = record {}
 behind_leaf f w (Dir at (Err e)) n rest leaf = record {}
 behind_leaf f w (Dir at (Ok d)) n rest leaf = behind_no_item f w (standing_in f w d n) rest (leaf n)
@@ -44,7 +44,7 @@ opens_alike f v w (File at) t (inl same) = ap (λ x. opened_file f.content (file
 opens_alike f v w (Dir at d) t (inl same) = ap (opened_at f w) same.stands
 opens_alike f v w s t (inr none) = nothing_opens f v s none.0 ∙ sym (nothing_opens f w t none.1)
   where
-    nothing_opens : (f : Format) (v : View) (s : Standing) → IsNoItem s → opened_at f v s ≡ NoItem
+    nothing_opens : (f : Format) (v : View) (s : Standing) → HasNoItem s → opened_at f v s ≡ NoItem
     nothing_opens f v Absent none = refl
     nothing_opens f v (Strange at) none = refl
     nothing_opens f v (File at) none = absurd none
@@ -140,7 +140,7 @@ gains_from f v w gain name g front (Dir at (Ok dir)) (n ∷ rest) is apart bytes
         let to : standing_in f v dir n ≡ standing_in f v g.dir name = ap (λ (p : Directory × List ℕ). standing_in f v p.0 p.1) (same_step e) in
         let after : standing_in f w dir n ≡ standing_in f w g.dir name = ap (λ (p : Directory × List ℕ). standing_in f w p.0 p.1) (same_step e) in
         inr (
-          behind_no_item f v (standing_in f v dir n) (m ∷ more) (subst IsNoItem (sym to) g.free),
+          behind_no_item f v (standing_in f v dir n) (m ∷ more) (subst HasNoItem (sym to) g.free),
           behind_leaf f w (standing_in f w dir n) m more (subst (IsLeaf f w) (sym after) g.leaf),
         )
 
@@ -161,7 +161,7 @@ pub way_stays : (f : Format) (v w : View) (gain : plain.Path) (name : List ℕ) 
     → standing f w gain ≡ Dir g.leads.at (Ok g.dir)
 way_stays f v w gain name g = elim (gains_alike f v w gain name g gain (shorter gain name)) [
   | inl same ↦ sym same.stands ∙ g.leads.stands
-  | inr none ↦ absurd (subst IsNoItem g.leads.stands none.0)
+  | inr none ↦ absurd (subst HasNoItem g.leads.stands none.0)
 ]
 
 -- and there opens what now stands

@@ -8,7 +8,7 @@ use Rattle.vault_spec.specs.declared.Finding.TheVariants as is
 use Rattle.vault_spec.specs.Alike.{HasFolders}
 use Rattle.vault_spec.specs.Findings.{IsExtra, IsFinding}
 use Rattle.vault_spec.specs.Format.{Format, Nothing, NoItem, Expected, ContentFolder, Extra}
-use Rattle.vault_spec.specs.Moving.{is_moved, IsStray, GoesWith, AreStrays, HasOwnFolders, StraysGoAlone}
+use Rattle.vault_spec.specs.Moving.{is_moved, IsStray, GoesWith, AreStrays, HasSoundFolders, StraysGoAlone}
 use Rattle.vault_spec.specs.Standing.{entry_at, item_at}
 use Rattle.vault_spec.proofs.Lawful.{IsLawful}
 use Rattle.vault_spec.proofs.StrayLaws.{KnowsStrays}
@@ -96,7 +96,7 @@ no_role_below f lawful knows v at a rest folder (Misplaced role) there = knows.b
 no_role_below f lawful knows v at a rest folder (Unreached u) there = knows.below_role at a rest there (inr (ap (f.role at) (sym folder) ∙ u.folder))
 
 -- so none is below another
-none_below : (f : Format) (lawful : IsLawful f) → KnowsStrays f lawful → (v : View) (at : Path) (a : Part) (rest : Path) → HasOwnFolders f v → IsStray f v at → ¬ IsStray f v (at ++ a ∷ rest)
+none_below : (f : Format) (lawful : IsLawful f) → KnowsStrays f lawful → (v : View) (at : Path) (a : Part) (rest : Path) → HasSoundFolders f v → IsStray f v at → ¬ IsStray f v (at ++ a ∷ rest)
 none_below f lawful knows v at a rest has stray below_it = by_place (stray_place f v (at ++ a ∷ rest) below_it)
   where
     is_cut : IsCut f lawful v (alone at)

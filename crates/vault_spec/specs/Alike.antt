@@ -9,11 +9,11 @@ use Rattle.vault_spec.specs.Standing.{Standing, Absent, Strange, File, Dir, root
 use Rattle.vault_spec.specs.Reached.{Leads, HaveOwnFolders}
 
 -- no item stands there
-abbrev pub IsNoItem : Standing → Type 0
-IsNoItem Absent = Unit {0}
-IsNoItem (Strange at) = Unit {0}
-IsNoItem (File at) = ⊥
-IsNoItem (Dir at directory) = ⊥
+abbrev pub HasNoItem : Standing → Type 0
+HasNoItem Absent = Unit {0}
+HasNoItem (Strange at) = Unit {0}
+HasNoItem (File at) = ⊥
+HasNoItem (Dir at directory) = ⊥
 
 -- in two views the same stands at a place, with the same bytes where it is a file
 pub record IsSame (v w : View) (one other : Standing) : Type 0 where
@@ -22,7 +22,7 @@ pub record IsSame (v w : View) (one other : Standing) : Type 0 where
 
 -- the same item stands at a place in both, or none in either
 abbrev pub AreAlike : View → View → Standing → Standing → Type 0
-AreAlike v w one other = IsSame v w one other ⊎ (IsNoItem one × IsNoItem other)
+AreAlike v w one other = IsSame v w one other ⊎ (HasNoItem one × HasNoItem other)
 
 -- the root is the same, and so is what stands in each directory that is reached
 pub record LooksAlike (f : Format) (v w : View) : Type 0 where
@@ -31,7 +31,7 @@ pub record LooksAlike (f : Format) (v w : View) : Type 0 where
 
 -- no item stands in the directory
 abbrev pub IsEmptyIn : Format → View → Result Directory Lack → Type 0
-IsEmptyIn f w (Ok dir) = (name : List ℕ) → IsNoItem (standing_in f w dir name)
+IsEmptyIn f w (Ok dir) = (name : List ℕ) → HasNoItem (standing_in f w dir name)
 IsEmptyIn f w (Err lack) = Unit {0}
 
 -- a file, or a directory in which no item stands
@@ -47,7 +47,7 @@ pub record GainsItem (f : Format) (v w : View) (front : plain.Path) (name : List
   pub root : root_of f v ≡ root_of f w
   pub dir : Directory
   pub leads : Leads f v front dir
-  pub free : IsNoItem (standing_in f v dir name)
+  pub free : HasNoItem (standing_in f v dir name)
   pub leaf : IsLeaf f w (standing_in f w dir name)
   pub others : (path : plain.Path) (other : Directory) (n : List ℕ) → Leads f v path other → path ++ n ∷ [] ≢ front ++ name ∷ []
       → AreAlike v w (standing_in f v other n) (standing_in f w other n)

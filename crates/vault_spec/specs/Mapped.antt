@@ -34,8 +34,8 @@ pub record IsMapped (names : NameMap) (m t : Tree) : Type 0 where
   pub only : (path : Path) → t path ≢ NoItem → IsMappedItem names m path (t path)
 
 -- each item of the first tree is one of the mapped second, and isn't broken
-abbrev pub IsPartOf : NameMap → Tree → Tree → Type 0
-IsPartOf names t m = (path : Path) → path ≢ [] → t path ≢ NoItem → IsMappedItem names m path (t path) × IsWhole (t path)
+abbrev pub IsPartOfMapped : NameMap → Tree → Tree → Type 0
+IsPartOfMapped names t m = (path : Path) → path ≢ [] → t path ≢ NoItem → IsMappedItem names m path (t path) × IsWhole (t path)
 
 -- each item of the first tree opens in the second at its mapped path, and isn't broken
 abbrev pub IsHeldIn : NameMap → Tree → Tree → Type 0

@@ -51,7 +51,7 @@ pub record AreStrays (f : Format) (v : View) (gone : Path → Bool) : Type 0 whe
   pub whole : (at rest : Path) → IsTrue (gone at) → IsTrue (gone (at ++ rest))
 
 -- a vault whose folders stand, and in which no two directories have one folder
-pub record HasOwnFolders (f : Format) (v : View) : Type 0 where
+pub record HasSoundFolders (f : Format) (v : View) : Type 0 where
   pub folders : HasFolders v
   pub own : HaveOwnFolders f v
 
@@ -59,9 +59,9 @@ pub record HasOwnFolders (f : Format) (v : View) : Type 0 where
 -- as it did, and each finding but a note was found before, at a path that isn't gone. Where all are gone, there are no strays.
 pub record StraysGoAlone (f : Format) : Type 0 where
   pub there : (v : View) (at : Path) → IsStray f v at → (v at ≢ NoEntry) × (at ≢ [])
-  pub apart : (v : View) (at : Path) (a : Part) (rest : Path) → HasOwnFolders f v → IsStray f v at → ¬ IsStray f v (at ++ a ∷ rest)
-  pub opens : (v : View) (gone : Path → Bool) → HasOwnFolders f v → AreStrays f v gone → OpensAs f v (cut gone v)
-  pub found : (v : View) (gone : Path → Bool) → HasOwnFolders f v → AreStrays f v gone → (finding : Finding) (at : Path) → finding ≢ is.EmptyOrphan
+  pub apart : (v : View) (at : Path) (a : Part) (rest : Path) → HasSoundFolders f v → IsStray f v at → ¬ IsStray f v (at ++ a ∷ rest)
+  pub opens : (v : View) (gone : Path → Bool) → HasSoundFolders f v → AreStrays f v gone → OpensAs f v (cut gone v)
+  pub found : (v : View) (gone : Path → Bool) → HasSoundFolders f v → AreStrays f v gone → (finding : Finding) (at : Path) → finding ≢ is.EmptyOrphan
       → IsFinding f (cut gone v) finding at → IsFinding f v finding at × (gone at ≡ false)
-  pub none : (v : View) (gone : Path → Bool) → HasOwnFolders f v → AreStrays f v gone → ((at : Path) → IsStray f v at → IsTrue (gone at))
+  pub none : (v : View) (gone : Path → Bool) → HasSoundFolders f v → AreStrays f v gone → ((at : Path) → IsStray f v at → IsTrue (gone at))
       → (at : Path) → ¬ IsStray f (cut gone v) at

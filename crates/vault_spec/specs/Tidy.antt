@@ -6,7 +6,7 @@ use Rattle.folder_spec.specs.View.{View}
 use Rattle.folder_spec.specs.Edit.{edited, file_edit, view_after}
 use Rattle.plain_tree.specs.Names as plain
 use Rattle.plain_tree.specs.Names.{is_name}
-use Rattle.vault_spec.specs.Alike.{IsNoItem, IsOrderly}
+use Rattle.vault_spec.specs.Alike.{HasNoItem, IsOrderly}
 use Rattle.vault_spec.specs.Findings.{IsClean, IsIdleName, IsIdleFolder}
 use Rattle.vault_spec.specs.Format.{Format, Directory}
 use Rattle.vault_spec.specs.Making.{NewItem, NewDirectory, taken}
@@ -21,13 +21,13 @@ pub record IsTidy (f : Format) (v : View) : Type 0 where
 -- No item of the directory with another name is stored under the same stored name. And where the new item is a directory, no directory has
 -- the folder that it gets.
 pub record HasOwnPlace (f : Format) (v : View) (dir : Directory) (name : List ℕ) (item : NewItem) (drawn : List ℕ) : Type 0 where
-  pub named : (other : List ℕ) → other ≢ name → ¬ IsNoItem (standing_in f v dir other) → (f.stored dir.key other).name ≢ (f.stored dir.key name).name
+  pub named : (other : List ℕ) → other ≢ name → ¬ HasNoItem (standing_in f v dir other) → (f.stored dir.key other).name ≢ (f.stored dir.key name).name
   pub homed : item ≡ NewDirectory → (other : Directory) → IsReached f v other → other.folder ≢ f.folder_of (entry_at f dir name) (f.new_key drawn)
 
 -- In a clean and tidy vault, an item that is new in a directory and has a place of its own finds none taken.
 abbrev pub OwnPlacesAreFree : Format → Type 0
 OwnPlacesAreFree f = (v : View) (front : plain.Path) (dir : Directory) (name : List ℕ) (item : NewItem) (drawn : List ℕ) → IsClean f v → IsTidy f v → Leads f v front dir → IsTrue (is_name name)
-    → IsNoItem (standing_in f v dir name) → HasOwnPlace f v dir name item drawn → taken f v dir name item drawn ≡ None
+    → HasNoItem (standing_in f v dir name) → HasOwnPlace f v dir name item drawn → taken f v dir name item drawn ≡ None
 
 -- Where no place is taken, a tidy vault is tidy again once an item is made in a directory that a path leads to.
 pub record NewItemsStayTidy (f : Format) : Type 0 where

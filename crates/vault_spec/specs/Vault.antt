@@ -41,8 +41,8 @@ pub data LoadRefusal : Type 0 where
   WrongPass : LoadRefusal
   BadSignature : LoadRefusal
 
-abbrev pub Answer : Type 0
-Answer = Result Vault LoadRefusal
+abbrev pub Loaded : Type 0
+Loaded = Result Vault LoadRefusal
 
 abbrev pub go_conf : Path
 go_conf = codes "gocryptfs.conf" ∷ []
@@ -59,45 +59,45 @@ Either true one other = one
 Either false one other = other
 
 -- what follows of the bytes of a file of at most 65,536 bytes at a path, and else the answer is why there is none
-abbrev pub OfFile : Path → Found → Answer → (List ℕ → Type 0) → Type 0
+abbrev pub OfFile : Path → Found → Loaded → (List ℕ → Type 0) → Type 0
 OfFile at NoEntry answer next = answer ≡ Err (Missing at)
 OfFile at Folder answer next = answer ≡ Err (WrongKind at)
 OfFile at Special answer next = answer ≡ Err (WrongKind at)
 OfFile at (FileOf bytes) answer next = Either (nat_le (length bytes) 65536) (next bytes) (answer ≡ Err (TooLarge at))
 
 -- the keys that a gocryptfs configuration and a passphrase give, or that there are none
-abbrev pub UnlocksGo : GoConf → List ℕ → Answer → Type 0
+abbrev pub UnlocksGo : GoConf → List ℕ → Loaded → Type 0
 UnlocksGo conf pass answer =
     ((keys : GoKeys) × gocryptfs.Unlocks conf pass keys × (answer ≡ Ok (Gocryptfs keys)))
     ⊎ (((keys : GoKeys) → ¬ gocryptfs.Unlocks conf pass keys) × (answer ≡ Err WrongPass))
 
 -- the tests of a gocryptfs vault behind the bytes of its configuration: what they say, and the passphrase
-abbrev pub TestsGo : List ℕ → List ℕ → Answer → Type 0
+abbrev pub TestsGo : List ℕ → List ℕ → Loaded → Type 0
 TestsGo bytes pass answer =
     (read : Result GoConf GoConfFault) × ReadsAs bytes read
     × MatchResult read (λ conf. UnlocksGo conf pass answer) (λ fault. answer ≡ Err (GoRefused fault))
 
-abbrev pub LoadsGo : View → List ℕ → Answer → Type 0
+abbrev pub LoadsGo : View → List ℕ → Loaded → Type 0
 LoadsGo v pass answer = OfFile go_conf (v go_conf) answer (λ bytes. TestsGo bytes pass answer)
 
 abbrev pub cm_vault : CmKeys → VaultFile → CmVault
 cm_vault keys file = record { keys = keys; combo = file.combo; threshold = file.threshold }
 
 -- the signature of a vault's file, by its keys
-abbrev pub Signs : CmKeys → VaultFile → Answer → Type 0
+abbrev pub Signs : CmKeys → VaultFile → Loaded → Type 0
 Signs keys file answer =
     ((file.signature ≡ signature_of file.alg keys file.signed) × (answer ≡ Ok (Cryptomator (cm_vault keys file))))
     ⊎ ((file.signature ≢ signature_of file.alg keys file.signed) × (answer ≡ Err BadSignature))
 
 -- the keys that a master key file and a passphrase give and the signature by them, or that there are none
-abbrev pub UnlocksCm : MasterFile → VaultFile → List ℕ → Answer → Type 0
+abbrev pub UnlocksCm : MasterFile → VaultFile → List ℕ → Loaded → Type 0
 UnlocksCm master file pass answer =
     ((keys : CmKeys) × AreKeys keys × cryptomator.Unlocks master pass keys × Signs keys file answer)
     ⊎ (((keys : CmKeys) → AreKeys keys → ¬ cryptomator.Unlocks master pass keys) × (answer ≡ Err WrongPass))
 
 -- the tests of a Cryptomator vault behind the bytes of its two files: the master key file, the vault's file, the passphrase, the
 -- signature
-abbrev pub TestsCm : List ℕ → List ℕ → List ℕ → Answer → Type 0
+abbrev pub TestsCm : List ℕ → List ℕ → List ℕ → Loaded → Type 0
 TestsCm master_bytes vault_bytes pass answer =
     (read : Result MasterFile CmConfFault) × ReadsMaster master_bytes read
     × MatchResult read
@@ -105,24 +105,24 @@ TestsCm master_bytes vault_bytes pass answer =
     (λ fault. answer ≡ Err (CmRefused master_file fault))
 
 -- both files are there first
-abbrev pub LoadsCm : View → List ℕ → Answer → Type 0
+abbrev pub LoadsCm : View → List ℕ → Loaded → Type 0
 LoadsCm v pass answer =
     OfFile master_file (v master_file) answer (λ master_bytes.
     OfFile vault_file (v vault_file) answer (λ vault_bytes. TestsCm master_bytes vault_bytes pass answer))
 
 -- which format's tests count, by what stands at `gocryptfs.conf` and at `vault.cryptomator`
-abbrev pub LoadsBy : Found → Found → View → List ℕ → Answer → Type 0
+abbrev pub LoadsBy : Found → Found → View → List ℕ → Loaded → Type 0
 LoadsBy go cm v pass answer = Either (not (is_file go) && is_file cm) (LoadsCm v pass answer) (LoadsGo v pass answer)
 
 -- the answer to a root that is a directory
-abbrev pub LoadsFrom : Found → View → List ℕ → Answer → Type 0
+abbrev pub LoadsFrom : Found → View → List ℕ → Loaded → Type 0
 LoadsFrom NoEntry v pass answer = answer ≡ Err (Missing [])
 LoadsFrom (FileOf bytes) v pass answer = answer ≡ Err (WrongKind [])
 LoadsFrom Special v pass answer = answer ≡ Err (WrongKind [])
 LoadsFrom Folder v pass answer = LoadsBy (v go_conf) (v vault_file) v pass answer
 
 -- the answer to a root and a passphrase
-abbrev pub Loads : View → List ℕ → Answer → Type 0
+abbrev pub Loads : View → List ℕ → Loaded → Type 0
 Loads v pass answer = LoadsFrom (v []) v pass answer
 
 -- the vault that a root and a passphrase are

@@ -23,7 +23,7 @@ ghost use Rattle.vault_spec.specs.Format.{Format, Directory};
 ghost use Rattle.vault_spec.specs.Gocryptfs.{go_format, directory_key};
 ghost use Rattle.vault_spec.specs.Listing.{Listed, AreListed, node_of};
 ghost use Rattle.plain_tree.specs.declared.name_map.NameMap.{NameMap};
-ghost use Rattle.vault_spec.specs.Mapped.{HasNoBroken, IsHeldIn, IsMapped, IsPartOf, IsWhole, StaysApart};
+ghost use Rattle.vault_spec.specs.Mapped.{HasNoBroken, IsHeldIn, IsMapped, IsPartOfMapped, IsWhole, StaysApart};
 ghost use Rattle.vault_spec.specs.Moving.{StraysGoAlone};
 ghost use Rattle.vault_spec.specs.NewVault.{new_go_vault, new_cm_vault};
 ghost use Rattle.vault_spec.specs.Opens.{NoItem, Tree, opened, opened_at, tree, AreItems};
@@ -295,7 +295,7 @@ pub fn what_stands_is_found_step_by_step()
 pub fn trees_stay_by_same()
     ensures apart { (m : Tree) → StaysApart NameMap.Same m }
     ensures mapped { (m t : Tree) → IsMapped NameMap.Same m t ↔ ((path : Path) → t path ≡ m path) }
-    ensures part { (m t : Tree) → IsPartOf NameMap.Same t m ↔ ((path : Path) → path ≢ [] → t path ≢ NoItem → (t path ≡ m path) × IsWhole (t path)) }
+    ensures part { (m t : Tree) → IsPartOfMapped NameMap.Same t m ↔ ((path : Path) → path ≢ [] → t path ≢ NoItem → (t path ≡ m path) × IsWhole (t path)) }
     ensures held { (m t : Tree) → IsHeldIn NameMap.Same m t ↔ ((path : Path) → path ≢ [] → m path ≢ NoItem → (t path ≡ m path) × IsWhole (m path)) }
 {
     same_names_stay();
@@ -306,6 +306,6 @@ pub fn trees_stay_by_same()
 pub fn mapped_trees_are_held()
     ensures one { (names : NameMap) (m t u : Tree) → IsMapped names m t → IsMapped names m u → (path : Path) → t path ≡ u path }
     ensures held { (names : NameMap) (m t : Tree) → IsMapped names m t → HasNoBroken m → IsHeldIn names m t }
-    ensures part { (names : NameMap) (m t : Tree) → IsMapped names m t → HasNoBroken m → IsPartOf names t m }
-    ensures both { (names : NameMap) (m t : Tree) → t [] ≡ m [] → IsHeldIn names m t → IsPartOf names t m → IsMapped names m t }
+    ensures part { (names : NameMap) (m t : Tree) → IsMapped names m t → HasNoBroken m → IsPartOfMapped names t m }
+    ensures both { (names : NameMap) (m t : Tree) → t [] ≡ m [] → IsHeldIn names m t → IsPartOfMapped names t m → IsMapped names m t }
 {}

@@ -26,7 +26,7 @@ use Rattle.folder_staging.specs.Places.{IsStage}
 use Rattle.work_folder.specs.Entering.{IsReady}
 use Rattle.work_folder.specs.Entries.{stage_path}
 use Rattle.item_making.specs.Making.{Making}
-use Rattle.vault_write.specs.Editing.{Edits, HasEdited, HasFinished, AddsEdits, MayCome}
+use Rattle.vault_write.specs.Editing.{Edits, HasEdited, HasFinished, AddsEdits, MayBePut}
 use Rattle.vault_write.proofs.Edited.{StagingAt, staging_edits, renamed_edits, renamed_done, made_edits, made_done, settled_edits, settled_done, some_part}
 
 -- nothing was changed
@@ -156,7 +156,7 @@ pub is_stage : (work : Path) (x : Part) (t : Option Told) → IfSeen t (λ v. Is
 is_stage work x t ready = record { below_base = child-not_base (stage_path work) x; place = λ v is. inl (free_in_stage work x v (ready v is)) }
 
 -- what was staged whole may be renamed
-rename_allowed : (work at : Path) (x : Part) (files : List (List ℕ)) (made : View) (a b : Told) → IsSound a.state → MayCome (seen a.state) work at → made [] ≢ NoEntry
+rename_allowed : (work at : Path) (x : Part) (files : List (List ℕ)) (made : View) (a b : Told) → IsSound a.state → MayBePut (seen a.state) work at → made [] ≢ NoEntry
     → IsStagedWhole files (child (stage_path work) x) made a b → Allowed b.state (Rename (child (stage_path work) x) at)
 rename_allowed work at x files made a b sound may some staged =
     may_call_allowed b.state (Rename (child (stage_path work) x) at) (
@@ -175,7 +175,7 @@ rename_allowed work at x files made a b sound may some staged =
         q (apart-from_below (child (stage_path work) x) q none)
 
 pub renames_allowed : (work at : Path) (x : Part) (files : List (List ℕ)) (made : View) (t u : Option Told) → ((a : Told) → t ≡ Some a → IsSound a.state)
-    → IfSeen t (λ v. MayCome v work at) → made [] ≢ NoEntry → FromTo (IsStagedWhole files (child (stage_path work) x) made) t u
+    → IfSeen t (λ v. MayBePut v work at) → made [] ≢ NoEntry → FromTo (IsStagedWhole files (child (stage_path work) x) made) t u
     → (b : Told) → u ≡ Some b → Allowed b.state (Rename (child (stage_path work) x) at)
 renames_allowed work at x files made (Some a) (Some b) sound may some staged c is =
     let same : b ≡ c = cc is in
@@ -212,7 +212,7 @@ bytes_staged work x staged bytes t u is sound stages new =
     (subst (λ p. FromTo (λ a b. IsNewFile bytes a.state b.state (present b.state p)) t u) is new)
 
 pub bytes_renamed : (work : Path) (x : Part) (staged at : Path) (bytes : List ℕ) (t u w : Option Told) (result : Result (Unit {0}) FolderFault) → staged ≡ child (stage_path work) x
-    → ((a : Told) → u ≡ Some a → IsSound a.state) → IfSeen t (λ v. MayCome v work at)
+    → ((a : Told) → u ≡ Some a → IsSound a.state) → IfSeen t (λ v. MayBePut v work at)
     → Stages (bytes ∷ []) staged t u → FromTo (λ a b. IsNewFile bytes a.state b.state (present b.state staged)) t u → Changes (Rename staged at) u w result
     → AddsEdits work (file_edit at bytes ∷ []) (bytes ∷ []) t w result
 bytes_renamed work x staged at bytes t u w result is sound may stages new changes =
@@ -220,12 +220,12 @@ bytes_renamed work x staged at bytes t u w result is sound may stages new change
     (subst (λ p. Changes (Rename p at) u w result) is changes)
 
 pub bytes_may : (work : Path) (x : Part) (staged at : Path) (bytes : List ℕ) (t u : Option Told) → staged ≡ child (stage_path work) x
-    → ((a : Told) → t ≡ Some a → IsSound a.state) → ((a : Told) → u ≡ Some a → IsSound a.state) → IfSeen t (λ v. MayCome v work at)
+    → ((a : Told) → t ≡ Some a → IsSound a.state) → ((a : Told) → u ≡ Some a → IsSound a.state) → IfSeen t (λ v. MayBePut v work at)
     → Stages (bytes ∷ []) staged t u → FromTo (λ a b. IsNewFile bytes a.state b.state (present b.state staged)) t u
     → (b : Told) → u ≡ Some b → Allowed b.state (Rename staged at)
 bytes_may work x staged at bytes t u is sound sound_now may stages new b there =
     subst (λ p. Allowed b.state (Rename p at)) (sym is)
     (renames_allowed work at x (bytes ∷ []) (file_view bytes) t u sound may (λ none. cc) (bytes_staged work x staged bytes t u is sound_now stages new) b there)
 
-pub stage_there : (work : Path) (x : Part) (staged at : Path) (t : Option Told) → staged ≡ child (stage_path work) x → IfSeen t (λ v. MayCome v work at) → IsStage t staged
+pub stage_there : (work : Path) (x : Part) (staged at : Path) (t : Option Told) → staged ≡ child (stage_path work) x → IfSeen t (λ v. MayBePut v work at) → IsStage t staged
 stage_there work x staged at t is may = subst (IsStage t) (sym is) (is_stage work x t (λ v seen_so. (may v seen_so).ready))

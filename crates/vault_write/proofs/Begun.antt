@@ -20,7 +20,7 @@ use Rattle.vault_spec.specs.Making.{NewDirectory, edits, files, full_texts}
 use Rattle.vault_spec.specs.Reached.{Leads}
 use Rattle.vault_spec.specs.Vault.{format_of}
 use Rattle.work_folder.specs.Entering.{IsReady}
-use Rattle.vault_write.specs.Editing.{HasBegun, MayCome}
+use Rattle.vault_write.specs.Editing.{HasBegun, MayBePut}
 use Rattle.item_making.specs.Making.{Placing, Making, making_in}
 use Rattle.item_making.specs.Placing.{MayMake}
 use Rattle.vault_write.specs.Slots.{IsSlot, placing}
@@ -116,12 +116,12 @@ module _ (enters : Enters) (folders : FoldersStand) (vault : OpenedVault) (work 
   folder_there = folders (format_of vault.vault) (under vault.root v) front slot.dir ((enters (format_of vault.vault) (under vault.root v) front slot.dir).0 slot.entered)
 
   -- what is free in its folder may come there
-  pub may_come_in : (place : Path) (n : Part) → place ≡ vault.root ++ child slot.dir.folder n → v place ≡ NoEntry → MayCome v work place
+  pub may_come_in : (place : Path) (n : Part) → place ≡ vault.root ++ child slot.dir.folder n → v place ≡ NoEntry → MayBePut v work place
   may_come_in place n is free = record {
     ready = ready;
     free = free_in_folder vault.root slot.dir.folder place n v is free folder_there;
     apart = root_below work vault.root place apart beside (subst (λ q. IsTrue (at_or_below vault.root q)) (sym is) (at_itself vault.root (child slot.dir.folder n)));
   }
 
-  pub entry_comes : MayCome v work at
+  pub entry_comes : MayBePut v work at
   entry_comes = may_come_in at ((format_of vault.vault).stored slot.dir.key name).name slot.at_is (ap v slot.at_is ∙ slot.free)

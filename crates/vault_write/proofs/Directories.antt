@@ -21,7 +21,7 @@ use Rattle.folder_staging.specs.Places.{IsStage}
 use Rattle.work_folder.specs.Entries.{stage_path}
 use Rattle.vault_spec.specs.Cryptomator.{full_file, full_files}
 use Rattle.vault_spec.specs.Making.{full_texts}
-use Rattle.vault_write.specs.Editing.{AddsEdits, AddsName, MayCome, side_edits}
+use Rattle.vault_write.specs.Editing.{AddsEdits, AddsName, MayBePut, side_edits}
 use Rattle.vault_write.proofs.Edited.{StagingAt}
 use Rattle.vault_write.proofs.Adding.{adds_staging, adds_renamed, IsStagedWhole, free_in_stage, renames_allowed}
 
@@ -99,7 +99,7 @@ whole_staged files staged made t u sound whole =
     (from_to_both (StagingAt files staged) (λ a b. IsStagedView b.state (present b.state) staged made) t u whole.stages whole.whole))
 
 pub directory_renamed : (work : Path) (x : Part) (staged at : Path) (entries : List (Part × List ℕ)) (files : List (List ℕ)) (t u w : Option Told) (result : Result (Unit {0}) FolderFault) → staged ≡ child (stage_path work) x
-    → ((a : Told) → u ≡ Some a → IsSound a.state) → IfSeen t (λ v. MayCome v work at) → IsStagedFolder files staged entries t u → Changes (Rename staged at) u w result
+    → ((a : Told) → u ≡ Some a → IsSound a.state) → IfSeen t (λ v. MayBePut v work at) → IsStagedFolder files staged entries t u → Changes (Rename staged at) u w result
     → AddsEdits work (folder_edit at entries ∷ []) files t w result
 directory_renamed work x staged at entries files t u w result is sound may whole changes =
     adds_renamed work x (folder_edit at entries) files t u w result
@@ -107,14 +107,14 @@ directory_renamed work x staged at entries files t u w result is sound may whole
     (λ v seen_so. (may v seen_so).free) (subst (λ p. Changes (Rename p at) u w result) is changes)
 
 pub directory_may : (work : Path) (x : Part) (staged at : Path) (entries : List (Part × List ℕ)) (files : List (List ℕ)) (t u : Option Told) → staged ≡ child (stage_path work) x
-    → ((a : Told) → t ≡ Some a → IsSound a.state) → ((a : Told) → u ≡ Some a → IsSound a.state) → IfSeen t (λ v. MayCome v work at) → IsStagedFolder files staged entries t u
+    → ((a : Told) → t ≡ Some a → IsSound a.state) → ((a : Told) → u ≡ Some a → IsSound a.state) → IfSeen t (λ v. MayBePut v work at) → IsStagedFolder files staged entries t u
     → (b : Told) → u ≡ Some b → Allowed b.state (Rename staged at)
 directory_may work x staged at entries files t u is sound sound_now may whole b there =
     subst (λ p. Allowed b.state (Rename p at)) (sym is)
     (renames_allowed work at x files (folder_view entries) t u sound may (λ none. cc)
     (subst (λ p. FromTo (IsStagedWhole files p (folder_view entries)) t u) is (whole_staged files staged (folder_view entries) t u sound_now whole)) b there)
 
-pub directory_free : (work : Path) (x : Part) (staged at : Path) (t : Option Told) → staged ≡ child (stage_path work) x → IfSeen t (λ v. MayCome v work at) → IfSeen t (λ v. ShowsFree v staged)
+pub directory_free : (work : Path) (x : Part) (staged at : Path) (t : Option Told) → staged ≡ child (stage_path work) x → IfSeen t (λ v. MayBePut v work at) → IfSeen t (λ v. ShowsFree v staged)
 directory_free work x staged at t is may v is_seen = subst (ShowsFree v) (sym is) (free_in_stage work x v (may v is_seen).ready)
 
 pub key_staged : (full : Option (List ℕ)) (staged : Path) (key_name : Part) (key : List ℕ) (t u : Option Told) (result : Result (Unit {0}) FolderFault)

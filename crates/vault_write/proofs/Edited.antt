@@ -25,7 +25,7 @@ use Rattle.folder_staging.specs.Folders.{IsStagingFolder}
 use Rattle.work_folder.specs.Entries.{stage_path}
 use Rattle.folder_staging.specs.Removal.{IsBare}
 use Rattle.work_folder.specs.Entering.{IsReady, below_stage}
-use Rattle.item_making.specs.Making.{Making, is_unstaged, is_apart, MayCome, StagesOrPlaces}
+use Rattle.item_making.specs.Making.{Making, is_unstaged, is_apart, HasPlace, StagesOrPlaces}
 use Rattle.vault_write.specs.Editing.{IsEditing, Edits, HasEdited, HasFinished}
 use Rattle.vault_write.proofs.Stages.{in_stage, unstaged_below, unstaged_apart, apart_unstaged, apart_root, at_root, root_unstaged, off_root, stage_beside, staged_beside, work_unstaged, stage_unstaged}
 use Rattle.vault_write.proofs.Runs.{went_with, works_in_stage}
@@ -201,7 +201,7 @@ module _ (work root : Path) (m : Making) where
     renaming outcome = (
       in_stage work x [] (child (stage_path work) x) (sym (append-nil (child (stage_path work) x))),
       (e, edit_among done more e h.is, refl),
-      subst (λ replaces. MayCome replaces c.state (child (stage_path work) x) e.at) (sym h.new) free_now,
+      subst (λ replaces. HasPlace replaces c.state (child (stage_path work) x) e.at) (sym h.new) free_now,
     )
 
     pub renamed_edits : (result : Result (Unit {0}) FolderFault) → Steps (Rename (child (stage_path work) x) e.at) c d result → Edits work root m a d

@@ -39,7 +39,7 @@ use Rattle.content_writing.specs.Writing.{DrewNoZeros}
 use Rattle.item_making.specs.declared.fault.PutFault.{PutFault}
 use Rattle.item_making.specs.declared.fault.PutFault.TheVariants as puts
 use Rattle.vault_write.specs.Calls.{AnswersBy, How, InPlace, IsOfMaking, MakesFile, MakesOne, New, ReadsElsewhere, Writing}
-use Rattle.vault_write.specs.Editing.{AddsEdits, Edits, HasBegun, HasEdited, HasFinished, IsEditing, MayCome, SeesSome, side_edits}
+use Rattle.vault_write.specs.Editing.{AddsEdits, Edits, HasBegun, HasEdited, HasFinished, IsEditing, MayBePut, SeesSome, side_edits}
 use Rattle.vault_write.specs.Faults.{IsFileFault}
 use Rattle.vault_write.specs.Filing.{DoesLast, IsWhole, OnlyStages, PlacesEntry, PlacesBy, PlacesFile, StopsBy, entry_edit, entry_files}
 use Rattle.item_making.specs.Making.{Placing, Making, format, path_of, new_item, is_unstaged, StagesOrPlaces}
@@ -290,7 +290,7 @@ module _ (shows : EditsShowTrees) (keeps : EditsBeforeTheLastKeepTrees) (settles
       side_done : FromTo (HasEdited work vault.root (stopped_making (side_edits wants side full) (full_texts full ++ encrypt (format_of vault.vault).content [] [] ∷ [])) (side_edits wants side full) []) t u
       side_done = firsts_done shows keeps settles roots gives are vault work front name at None full (side_edits wants side full) (full_texts full) t u may sound go_filed_at side_first entry_last adds
 
-      pub go_may : FoldersStand → IfSeen u (λ v. MayCome v work at)
+      pub go_may : FoldersStand → IfSeen u (λ v. MayBePut v work at)
       go_may folders = entry_may work vault.root (stopped_making (side_edits wants side full) (full_texts full ++ encrypt (format_of vault.vault).content [] [] ∷ [])) wants side at full [] t u side_done
           (file_places enters folders vault.root vault.vault is work front name t may at side full wants slot side_is)
 

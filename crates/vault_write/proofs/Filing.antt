@@ -36,7 +36,7 @@ use Rattle.content_writing.proofs.Standing.{IsStill, ready_now, still_same}
 use Rattle.item_making.specs.declared.fault.PutFault.{PutFault}
 use Rattle.item_making.specs.declared.fault.PutFault.TheVariants as puts
 use Rattle.vault_write.specs.Calls.{ReadsElsewhere, TakesContent, Writing}
-use Rattle.vault_write.specs.Editing.{AddsEdits, AddsName, HasEdited, MayCome}
+use Rattle.vault_write.specs.Editing.{AddsEdits, AddsName, HasEdited, MayBePut}
 use Rattle.vault_write.specs.Filing.{DoesLast, IsWhole, OnlyStages, PlacesEntry, PublishesEntry, StagesEntry, StopsBy, entry_edit, entry_files, entry_view, file_of}
 use Rattle.item_making.specs.Making.{Making, is_inside, is_unstaged}
 use Rattle.vault_write.proofs.Adding.{adds_nothing, adds_renamed, adds_staging, file_staged, file_staging, finishes, IsStagedWhole, renames_allowed, staged_below}
@@ -290,7 +290,7 @@ something (Some text) bytes none = cc
 
 -- a staged entry may be renamed
 pub entry_allowed : (work : Path) (x : Part) (staged at : Path) (inside : Option (List ℕ)) (bytes : List ℕ) (files : List (List ℕ)) (t u : Option Told) → staged ≡ child (stage_path work) x
-    → ((a : Told) → t ≡ Some a → IsSound a.state) → ((a : Told) → u ≡ Some a → IsSound a.state) → IfSeen t (λ v. MayCome v work at) → HasStaged files staged (entry_view inside bytes) t u
+    → ((a : Told) → t ≡ Some a → IsSound a.state) → ((a : Told) → u ≡ Some a → IsSound a.state) → IfSeen t (λ v. MayBePut v work at) → HasStaged files staged (entry_view inside bytes) t u
     → (b : Told) → u ≡ Some b → Allowed b.state (Rename staged at)
 entry_allowed work x staged at inside bytes files t u is sound sound_now may whole b there =
     subst (λ p. Allowed b.state (Rename p at)) (sym is)
@@ -320,7 +320,7 @@ entry_stopped {keys} {work} {at} {staged} {inside} {coming} {left} {stream} {str
     })
 
 module _ {keys : Keys} {work at staged : Path} {inside : Option (List ℕ)} {coming left : Option Coming} {stream stream' : Option ByteStream} {t u : Option Told} (w : Option Told)
-    (is : staged ≡ child (stage_path work) (codes "f")) (may : IfSeen t (λ v. MayCome v work at)) (k : StagesEntry keys inside staged coming left stream stream' t u (Ok tt)) where
+    (is : staged ≡ child (stage_path work) (codes "f")) (may : IfSeen t (λ v. MayBePut v work at)) (k : StagesEntry keys inside staged coming left stream stream' t u (Ok tt)) where
   published_so : (result : Result (Unit {0}) FolderFault) → PublishesEntry staged at u w result → DoesLast work (entry_edit at inside (file_of keys k.writing)) (entry_files inside (file_of keys k.writing)) t w result
   published_so result publishes = publishes work (entry_view inside (file_of keys k.writing)) (entry_files inside (file_of keys k.writing)) t is (λ v seen_so. (may v seen_so).free) k.ends.1
 

@@ -15,7 +15,7 @@ use Rattle.folder_spec.proofs.Seen.{seen_changed, seen_of}
 use Rattle.folder_spec.proofs.Tellings.{from_to_more}
 use Rattle.work_folder.specs.Entries.{stage_path}
 use Rattle.item_making.specs.Making.{Making, is_inside, is_unstaged}
-use Rattle.vault_write.specs.Editing.{Edits, HasEdited, HasFinished, AddsEdits, MayCome, side_edits, shelf_edits, home_edits, GoPlaces, HomePlaces, CmPlaces}
+use Rattle.vault_write.specs.Editing.{Edits, HasEdited, HasFinished, AddsEdits, MayBePut, side_edits, shelf_edits, home_edits, GoPlaces, HomePlaces, CmPlaces}
 use Rattle.vault_write.proofs.Seeing.{seen_then}
 
 -- none of these edits comes to stand at a path or above it
@@ -40,11 +40,11 @@ unstaged_at work q none = ap (λ o. not (is_inside o)) none
 
 -- so a place where something may come stays so
 pub may_still : (work root at : Path) (m : Making) (done more : List Edit) (t u : Option Told) → FromTo (HasEdited work root m done more) t u
-    → IfSeen t (λ v. MayCome v work at × AreOff done at) → IfSeen u (λ w. MayCome w work at)
+    → IfSeen t (λ v. MayBePut v work at × AreOff done at) → IfSeen u (λ w. MayBePut w work at)
 may_still work root at m done more t u h may =
-    seen_then (HasEdited work root m done more) (λ w. MayCome w work at) t u
+    seen_then (HasEdited work root m done more) (λ w. MayBePut w work at) t u
     (λ a b is k.
-    let there : MayCome (seen a.state) work at × AreOff done at = may (seen a.state) (seen_of t a is) in
+    let there : MayBePut (seen a.state) work at × AreOff done at = may (seen a.state) (seen_of t a is) in
     let kept : (q : Path) → AreOff done q → below (stage_path work) q ≡ None → seen b.state q ≡ seen a.state q =
     λ q off none. k.views q (unstaged_at work q none) ∙ view_off (seen a.state) done q off in
     record {
@@ -61,7 +61,7 @@ side_off true side at None apart = record {}
 side_off true side at (Some text) apart = (apart, record {})
 
 pub entry_may : (work root : Path) (m : Making) (wants : Bool) (side at : Path) (full : Option (List ℕ)) (more : List Edit) (t u : Option Told)
-    → FromTo (HasEdited work root m (side_edits wants side full) more) t u → IfSeen t (λ v. GoPlaces v work wants side at) → IfSeen u (λ w. MayCome w work at)
+    → FromTo (HasEdited work root m (side_edits wants side full) more) t u → IfSeen t (λ v. GoPlaces v work wants side at) → IfSeen u (λ w. MayBePut w work at)
 entry_may work root m wants side at full more t u h places =
     may_still work root at m (side_edits wants side full) more t u h (λ v is. ((places v is).entry, side_off wants side at full (places v is).others))
 
@@ -75,7 +75,7 @@ pub home_off : (wants : Bool) (shelf home at : Path) → (wants ≡ true → bel
 home_off wants shelf home at apart home_apart = off_both (shelf_edits wants shelf) (directory_edit home ∷ []) at (shelf_off wants shelf at apart) (home_apart, record {})
 
 pub entry_may_then : (work root : Path) (m : Making) (wants : Bool) (shelf home at : Path) (more : List Edit) (t u : Option Told)
-    → FromTo (HasEdited work root m (home_edits wants shelf home) more) t u → IfSeen t (λ v. CmPlaces v work wants shelf home at) → IfSeen u (λ w. MayCome w work at)
+    → FromTo (HasEdited work root m (home_edits wants shelf home) more) t u → IfSeen t (λ v. CmPlaces v work wants shelf home at) → IfSeen u (λ w. MayBePut w work at)
 entry_may_then work root m wants shelf home at more t u h places =
     may_still work root at m (home_edits wants shelf home) more t u h
     (λ v is. ((places v is).entry, home_off wants shelf home at (places v is).shelf_apart (places v is).home_apart))

@@ -71,7 +71,7 @@ AddsName staged full old new result =
     → StagesFolder contents staged before new × OnOk result (IsStagedFolder contents staged (full_files full ++ files) before new)
 
 -- Something can be staged and put at a place.
-pub record MayCome (v : View) (work at : Path) : Type 0 where
+pub record MayBePut (v : View) (work at : Path) : Type 0 where
   pub ready : IsReady v work
   pub free : ShowsFree v at
   pub apart : below (stage_path work) at ≡ None
@@ -114,8 +114,8 @@ HasBegun work root m told = FromTo (HasEdited work root m [] m.edits) told told
 
 -- where the parts of a new directory of gocryptfs come to stand
 pub record GoPlaces (v : View) (work : Path) (wants : Bool) (side at : Path) : Type 0 where
-  pub entry : MayCome v work at
-  pub side_comes : wants ≡ true → MayCome v work side
+  pub entry : MayBePut v work at
+  pub side_comes : wants ≡ true → MayBePut v work side
   pub others : below side at ≡ None
 
 -- where the folders of a new directory of Cryptomator come to stand
@@ -127,7 +127,7 @@ pub record HomePlaces (v : View) (wants : Bool) (shelf home : Path) : Type 0 whe
 
 -- and its entry
 pub record CmPlaces (v : View) (work : Path) (wants : Bool) (shelf home at : Path) : Type 0 where
-  pub entry : MayCome v work at
+  pub entry : MayBePut v work at
   pub folders : HomePlaces v wants shelf home
   pub shelf_apart : wants ≡ true → below shelf at ≡ None
   pub home_apart : below home at ≡ None

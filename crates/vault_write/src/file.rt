@@ -9,7 +9,7 @@ ghost use Rattle.vault_spec.specs.Vault.{format_of};
 ghost use Rattle.content_writing.specs.Content.{IsReady, still_coming};
 ghost use Rattle.content_writing.specs.Writing.{Blames, ReadsApart};
 ghost use Rattle.vault_write.specs.Calls.{IsAt, IsKept, MakesFile, New, InPlace, ReadsElsewhere};
-ghost use Rattle.vault_write.specs.Editing.{MayCome};
+ghost use Rattle.vault_write.specs.Editing.{MayBePut};
 ghost use Rattle.vault_write.specs.Faults.{IsFileFault};
 ghost use Rattle.vault_write.specs.Filing.{StagesEntry, PlacesEntry, PlacesFile, PublishesEntry, MayReplace, ReplacesEntry, ReplacesContent, IsSlotOver, StandsAs, StandsUnder, IsAtDirectory};
 ghost use Rattle.item_making.specs.Placing.{MayMake};
@@ -601,7 +601,7 @@ fn place_entry<F: Folder, R: Randoms, C: Content<F>>(
     random: &mut R,
     buffers: &mut Buffers,
 ) -> Result<(), PutFault>
-    requires may { IfSeen (F.told folder.old) (λ v. MayCome v work.now at.now) }
+    requires may { IfSeen (F.told folder.old) (λ v. MayBePut v work.now at.now) }
     requires ready { IsReady (C.reads content.old) (F.told folder.old) (C.coming content.old) }
     requires outside { ReadsApart (C.reads content.old) work.now }
     ensures made { PlacesEntry keys work.now at.now inside.now (still_coming (C.reads content.old) (F.told folder.old) (C.coming content.old)) (still_coming (C.reads content.old) (F.told folder.old) (C.coming content.new))

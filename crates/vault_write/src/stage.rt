@@ -10,7 +10,7 @@ ghost use Rattle.folder_staging.specs.Folders.{StagesFolder, IsStagedFolder};
 ghost use Rattle.work_folder.specs.Entries.{stage_path};
 ghost use Rattle.vault_spec.specs.Cryptomator.{full_file, full_files};
 ghost use Rattle.vault_spec.specs.Making.{full_texts};
-ghost use Rattle.vault_write.specs.Editing.{AddsEdits, AddsName, MayCome, side_edits};
+ghost use Rattle.vault_write.specs.Editing.{AddsEdits, AddsName, MayBePut, side_edits};
 
 use folder_model::{FPath, Folder};
 use folder_spec::FolderFault;
@@ -44,7 +44,7 @@ pub(crate) fn publish_bytes<F: Folder>(
     at: &FPath,
     bytes: &[u8],
 ) -> Result<(), FolderFault>
-    requires { IfSeen (F.told folder.old) (λ v. MayCome v work.now at.now) }
+    requires { IfSeen (F.told folder.old) (λ v. MayBePut v work.now at.now) }
     ensures made { AddsEdits work.now (file_edit at.now bytes.now ∷ []) (bytes.now ∷ []) (F.told folder.old) (F.told folder.new) result }
     ensures counts { CountsAbove (F.faults folder.old) (F.faults folder.new) result }
 {
@@ -61,7 +61,7 @@ pub(crate) fn publish_side<F: Folder>(
     full: &Option<Text>,
     wants: bool,
 ) -> Result<(), FolderFault>
-    requires { IfSeen (F.told folder.old) (λ v. wants ≡ true → MayCome v work.now at.now) }
+    requires { IfSeen (F.told folder.old) (λ v. wants ≡ true → MayBePut v work.now at.now) }
     ensures made { AddsEdits work.now (side_edits wants at.now full.now) (full_texts full.now) (F.told folder.old) (F.told folder.new) result }
     ensures counts { CountsAbove (F.faults folder.old) (F.faults folder.new) result }
 {
@@ -121,7 +121,7 @@ pub(crate) fn publish_directory<F: Folder>(
     key: &[u8],
     full: &Option<Text>,
 ) -> Result<(), FolderFault>
-    requires may { IfSeen (F.told folder.old) (λ v. MayCome v work.now at.now) }
+    requires may { IfSeen (F.told folder.old) (λ v. MayBePut v work.now at.now) }
     requires name { key_name.now ≢ full_file }
     ensures made { AddsEdits work.now (folder_edit at.now (full_files full.now ++ (key_name.now, key.now) ∷ []) ∷ []) (full_texts full.now ++ key.now ∷ []) (F.told folder.old) (F.told folder.new) result }
     ensures counts { CountsAbove (F.faults folder.old) (F.faults folder.new) result }

@@ -19,7 +19,7 @@ use Rattle.work_folder.specs.declared.fault.WorkFault.{WorkFault}
 use Rattle.work_folder.specs.declared.fault.WorkFault.TheVariants.{NoParent, WrongKind, Foreign, Begun, Depth, Failed, NoMemory}
 use Rattle.work_folder.specs.Faults.{fault_of}
 use Rattle.work_folder.specs.Entries.{new_journal_path, stage_path}
-use Rattle.work_folder.specs.Looking.{Answer, Tests, Gives, Looks}
+use Rattle.work_folder.specs.Looking.{Looked, Tests, Gives, Looks}
 use Rattle.work_folder.specs.Changing.{ChangesAt, Alters}
 use Rattle.work_folder.specs.Entering.{below_stage, IsStage, IsBelowStage, IsWorkOrStage, IsLeftOver, Empties, EntersAs, Enters, Restages, Prepares}
 use Rattle.work_folder.proofs.Looks.{gives_more}
@@ -162,7 +162,7 @@ module _ (work : Path) where
         (λ v shown. stage_place v work (passed t sound v shown work (tests v shown))) w is
 
 -- Emptying the stage answers by what stood below it at first.
-empties_back : (v w : View) (work : Path) → ((rest : Path) → 1 ≤ length rest → w (stage_path work ++ rest) ≡ v (stage_path work ++ rest)) → (answer : Answer)
+empties_back : (v w : View) (work : Path) → ((rest : Path) → 1 ≤ length rest → w (stage_path work ++ rest) ≡ v (stage_path work ++ rest)) → (answer : Looked)
     → Empties w work answer → Empties v work answer
 empties_back v w work agree (Ok done) h = λ rest least.
     (λ odd. (h rest least).0 (agree rest least ∙ odd), λ deep. sym (agree rest least) ∙ (h rest least).1 deep)
@@ -176,7 +176,7 @@ empties_back v w work agree (Err Depth) h =
 empties_back v w work agree (Err Failed) h = tt
 empties_back v w work agree (Err NoMemory) h = tt
 
-gives_err : (T : Type 0) (A : Answer → Type 0) (fault : WorkFault) → Gives {T = Unit {0}} A (Err fault) → Gives {T = T} A (Err fault)
+gives_err : (T : Type 0) (A : Looked → Type 0) (fault : WorkFault) → Gives {T = Unit {0}} A (Err fault) → Gives {T = T} A (Err fault)
 gives_err T A (NoParent p) h = h
 gives_err T A (WrongKind p) h = h
 gives_err T A (Foreign p) h = h
@@ -195,7 +195,7 @@ refused T v work Depth h = inl (h, λ e. cc e)
 refused T v work Failed h = tt
 refused T v work NoMemory h = tt
 
-gives_nothing : (T : Type 0) (A : Answer → Type 0) (fault : WorkFault) → (fault ≡ Failed) ⊎ (fault ≡ NoMemory) → Gives {T = T} A (Err fault)
+gives_nothing : (T : Type 0) (A : Looked → Type 0) (fault : WorkFault) → (fault ≡ Failed) ⊎ (fault ≡ NoMemory) → Gives {T = T} A (Err fault)
 gives_nothing T A fault is = elim is as (λ _. Gives {T = T} A (Err fault)) [
   | inl e ↦ subst (λ f. Gives {T = T} A (Err f)) (sym e) tt
   | inr e ↦ subst (λ f. Gives {T = T} A (Err f)) (sym e) tt
@@ -225,10 +225,10 @@ module _ (T : Type 0) (work : Path) where
 
   -- after the tests
   module _ (t0 t1 t2 : Option Told) (n0 n1 n2 : ℕ) (looked : Looks (λ v answer. Tests v work answer) t0 t1 n0 n1 (Ok tt)) where
-    prepared : (result : Answer) → Prepares work t1 t2 n1 n2 result → Preparing work t0 t2
+    prepared : (result : Looked) → Prepares work t1 t2 n1 n2 result → Preparing work t0 t2
     prepared result h = subst (λ t. Preparing work t t2) looked.told h.moments
 
-    prepared_moments : (result : Answer) → Prepares work t1 t2 n1 n2 result → Alters (IsWorkOrStage work) (IsLeftOver work) t0 t2
+    prepared_moments : (result : Looked) → Prepares work t1 t2 n1 n2 result → Alters (IsWorkOrStage work) (IsLeftOver work) t0 t2
     prepared_moments result h =
         alters_more (λ q. q ≡ work) (λ q. q ≡ new_journal_path work) (IsWorkOrStage work) (IsLeftOver work) (λ q k. inl k) (λ q k. inl k) t0 t2 (prepared result h)
 
@@ -243,23 +243,23 @@ module _ (T : Type 0) (work : Path) where
     }
 
     module _ (t3 : Option Told) (n3 : ℕ) (h : Prepares work t1 t2 n1 n2 (Ok tt)) where
-      restaged_moments : (result : Answer) → Restages {T = Unit {0}} work t2 t3 n2 n3 result → Alters (IsStage work) (IsBelowStage work) t2 t3
+      restaged_moments : (result : Looked) → Restages {T = Unit {0}} work t2 t3 n2 n3 result → Alters (IsStage work) (IsBelowStage work) t2 t3
       restaged_moments result k = at_alters (stage_path work) (IsStage work) (IsBelowStage work) t2 t3 k.moments
 
-      entered_moments : (result : Answer) → Restages {T = Unit {0}} work t2 t3 n2 n3 result → ChangesAt work (IsWorkOrStage work) (IsLeftOver work) t0 t3
+      entered_moments : (result : Looked) → Restages {T = Unit {0}} work t2 t3 n2 n3 result → ChangesAt work (IsWorkOrStage work) (IsLeftOver work) t0 t3
       entered_moments result k =
           enters_at work t0 t3
           (alters_then (IsWorkOrStage work) (IsLeftOver work) (never_both work) t0 t2 t3 (prepared_moments (Ok tt) h)
           (alters_more (IsStage work) (IsBelowStage work) (IsWorkOrStage work) (IsLeftOver work) (λ q s. inr s) (λ q b. inr b) t2 t3 (restaged_moments result k)))
 
-      entered_grows : (result : Answer) → Restages {T = Unit {0}} work t2 t3 n2 n3 result → n0 ≤ n3
+      entered_grows : (result : Looked) → Restages {T = Unit {0}} work t2 t3 n2 n3 result → n0 ≤ n3
       entered_grows result k =
           let first : n0 ≤ n1 = looked.grows in
           let more : n1 ≤ n2 = h.grows in
           let last : n2 ≤ n3 = k.grows in
           omega (arith, first, more, last)
 
-      emptied : (result : Answer) → IfSeen t2 (λ w. Gives (Empties w work) result) → IfSeen t0 (λ v. Gives (Empties v work) result)
+      emptied : (result : Looked) → IfSeen t2 (λ w. Gives (Empties w work) result) → IfSeen t0 (λ v. Gives (Empties v work) result)
       emptied result answer v is = at t0 t2 (prepared (Ok tt) h) answer is
         where
           at : (t0 t2 : Option Told) → Preparing work t0 t2 → IfSeen t2 (λ w. Gives (Empties w work) result) → IsSeen t0 v → Gives (Empties v work) result
@@ -272,7 +272,7 @@ module _ (T : Type 0) (work : Path) where
           at (Some a) None went answer is = absurd went
           at None t went answer is = absurd is
 
-      all_pass : IfSeen t0 (λ v. (answer : Answer) → Empties v work answer → EntersAs v work answer)
+      all_pass : IfSeen t0 (λ v. (answer : Looked) → Empties v work answer → EntersAs v work answer)
       all_pass v is answer e = inr (looked.answer v is, e)
 
       pub restaging_fell : (fault : WorkFault) → Restages {T = Unit {0}} work t2 t3 n2 n3 (Err fault) → Enters {T = T} work t0 t3 n0 n3 (Err fault)

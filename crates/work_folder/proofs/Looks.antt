@@ -15,14 +15,14 @@ use Rattle.work_folder.specs.declared.fault.WorkFault.{WorkFault}
 use Rattle.work_folder.specs.declared.fault.WorkFault.TheVariants.{NoParent, WrongKind, Foreign, Begun, Depth, Failed, NoMemory}
 use Rattle.work_folder.specs.Entries.{journal_path}
 use Rattle.work_folder.specs.Faults.{fault_of}
-use Rattle.work_folder.specs.Looking.{Answer, TestsEntries, TestsJournal, TestsKind, TestsParent, Gives, Looks}
+use Rattle.work_folder.specs.Looking.{Looked, TestsEntries, TestsJournal, TestsKind, TestsParent, Gives, Looks}
 
-pub fell_gives : (T : Type 0) (A : Answer → Type 0) (fault : FolderFault) → Gives {T = T} A (Err (fault_of fault))
+pub fell_gives : (T : Type 0) (A : Looked → Type 0) (fault : FolderFault) → Gives {T = T} A (Err (fault_of fault))
 fell_gives T A folder.Failed = tt
 fell_gives T A folder.Refused = tt
 fell_gives T A folder.NoMemory = tt
 
-pub gives_it : (A : Answer → Type 0) (result : Answer) → A result → Gives A result
+pub gives_it : (A : Looked → Type 0) (result : Looked) → A result → Gives A result
 gives_it A (Ok done) h = h
 gives_it A (Err (NoParent p)) h = h
 gives_it A (Err (WrongKind p)) h = h
@@ -32,7 +32,7 @@ gives_it A (Err Depth) h = h
 gives_it A (Err Failed) h = tt
 gives_it A (Err NoMemory) h = tt
 
-pub gives_more : {T : Type 0} (A B : Answer → Type 0) (result : Result T WorkFault) → ((answer : Answer) → B answer → A answer) → Gives B result → Gives A result
+pub gives_more : {T : Type 0} (A B : Looked → Type 0) (result : Result T WorkFault) → ((answer : Looked) → B answer → A answer) → Gives B result → Gives A result
 gives_more A B (Ok done) more h = more (Ok tt) h
 gives_more A B (Err (NoParent p)) more h = more (Err (NoParent p)) h
 gives_more A B (Err (WrongKind p)) more h = more (Err (WrongKind p)) h
@@ -43,7 +43,7 @@ gives_more A B (Err Failed) more h = tt
 gives_more A B (Err NoMemory) more h = tt
 
 -- a first call fell
-pub fell_exit : (T : Type 0) (A : View → Answer → Type 0) (t u : Option Told) (n0 n1 : ℕ) (Condition : View → Type 0) (IsRight : View → T → Type 0) (fault : FolderFault)
+pub fell_exit : (T : Type 0) (A : View → Looked → Type 0) (t u : Option Told) (n0 n1 : ℕ) (Condition : View → Type 0) (IsRight : View → T → Type 0) (fault : FolderFault)
     → u ≡ t → IfSeen t (λ v. Condition v) → Answers {T = T} t Condition IsRight (Err fault) → Counts {T = T} t n0 n1 (Err fault)
     → Looks A t u n0 n1 (Err (fault_of fault))
 fell_exit T A t u n0 n1 Condition IsRight fault same holds answer counts = record {
@@ -53,22 +53,22 @@ fell_exit T A t u n0 n1 Condition IsRight fault same holds answer counts = recor
   failed = λ e. risen_by fault_of Failed (λ none. cc none) n0 n1 fault (counts_at_fault T (Unit {0}) t n0 n0 n1 Condition IsRight fault (omega arith) holds answer counts) (cc e);
 }
 
-pub kind_fell : (A : View → Answer → Type 0) (at : Path) (t u : Option Told) (n0 n1 : ℕ) (fault : FolderFault) → u ≡ t
+pub kind_fell : (A : View → Looked → Type 0) (at : Path) (t u : Option Told) (n0 n1 : ℕ) (fault : FolderFault) → u ≡ t
     → Answers {T = Kind} t (λ v. Unit {0}) (λ v k. k ≡ kind_found (v at)) (Err fault) → Counts {T = Kind} t n0 n1 (Err fault) → Looks A t u n0 n1 (Err (fault_of fault))
 kind_fell A at t u n0 n1 fault same answer counts =
     fell_exit Kind A t u n0 n1 (λ v. Unit {0}) (λ v k. k ≡ kind_found (v at)) fault same (λ v is. tt) answer counts
 
-pub no_memory_exit : (A : View → Answer → Type 0) (t u : Option Told) (n0 n1 : ℕ) → u ≡ t → n0 ≤ n1 → Looks A t u n0 n1 (Err NoMemory)
+pub no_memory_exit : (A : View → Looked → Type 0) (t u : Option Told) (n0 n1 : ℕ) → u ≡ t → n0 ≤ n1 → Looks A t u n0 n1 (Err NoMemory)
 no_memory_exit A t u n0 n1 same le = record { told = same; answer = λ v is. tt; grows = le; failed = λ e. cc e }
 
 -- a test answers
-pub answer_exit : (A : View → Answer → Type 0) (t u : Option Told) (n0 n1 : ℕ) (result : Answer) → u ≡ t → n0 ≤ n1 → result ≢ Err Failed
+pub answer_exit : (A : View → Looked → Type 0) (t u : Option Told) (n0 n1 : ℕ) (result : Looked) → u ≡ t → n0 ≤ n1 → result ≢ Err Failed
     → IfSeen t (λ v. Gives (A v) result) → Looks A t u n0 n1 result
 answer_exit A t u n0 n1 result same le other answer = record { told = same; answer = answer; grows = le; failed = λ e. absurd (other e) }
 
 -- the rest of the tests answer
-pub after_exit : (A B : View → Answer → Type 0) (t0 t1 t2 : Option Told) (n0 n1 n2 : ℕ) (result : Answer) → t1 ≡ t0 → n0 ≤ n1
-    → IfSeen t0 (λ v. (answer : Answer) → B v answer → A v answer) → Looks B t1 t2 n1 n2 result → Looks A t0 t2 n0 n2 result
+pub after_exit : (A B : View → Looked → Type 0) (t0 t1 t2 : Option Told) (n0 n1 n2 : ℕ) (result : Looked) → t1 ≡ t0 → n0 ≤ n1
+    → IfSeen t0 (λ v. (answer : Looked) → B v answer → A v answer) → Looks B t1 t2 n1 n2 result → Looks A t0 t2 n0 n2 result
 after_exit A B t0 t1 t2 n0 n1 n2 result same le more h = record {
   told = h.told ∙ same;
   answer = λ v is. gives_more (A v) (B v) result (more v is) (h.answer v (subst (λ t. IsSeen t v) (sym same) is));
@@ -83,7 +83,7 @@ parent_missing Folder v work e = cc
 parent_missing (FileOf bytes) v work e = cc
 parent_missing Special v work e = cc
 
-pub parent_dir : (x : Found) (v : View) (work : Path) (answer : Answer) → Dir ≡ kind_found x → TestsKind (v work) v work answer → TestsParent x v work answer
+pub parent_dir : (x : Found) (v : View) (work : Path) (answer : Looked) → Dir ≡ kind_found x → TestsKind (v work) v work answer → TestsParent x v work answer
 parent_dir Folder v work answer e h = h
 parent_dir NoEntry v work answer e h = cc
 parent_dir (FileOf bytes) v work answer e h = cc
@@ -101,7 +101,7 @@ kind_missing Folder v work e = cc
 kind_missing (FileOf bytes) v work e = cc
 kind_missing Special v work e = cc
 
-pub kind_dir : (x : Found) (v : View) (work : Path) (answer : Answer) → Dir ≡ kind_found x → TestsJournal (v (journal_path work)) v work answer → TestsKind x v work answer
+pub kind_dir : (x : Found) (v : View) (work : Path) (answer : Looked) → Dir ≡ kind_found x → TestsJournal (v (journal_path work)) v work answer → TestsKind x v work answer
 kind_dir Folder v work answer e h = h
 kind_dir NoEntry v work answer e h = cc
 kind_dir (FileOf bytes) v work answer e h = cc
@@ -119,7 +119,7 @@ journal_file NoEntry v work e = cc
 journal_file Folder v work e = cc
 journal_file Special v work e = cc
 
-pub no_journal : (x : Found) (v : View) (work : Path) (kind : Kind) (answer : Answer) → kind ≢ File → kind ≡ kind_found x → TestsEntries false v work answer
+pub no_journal : (x : Found) (v : View) (work : Path) (kind : Kind) (answer : Looked) → kind ≢ File → kind ≡ kind_found x → TestsEntries false v work answer
     → TestsJournal x v work answer
 no_journal NoEntry v work kind answer other e h = h
 no_journal Folder v work kind answer other e h = h

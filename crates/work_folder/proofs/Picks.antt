@@ -11,7 +11,7 @@ use Rattle.folder_spec.specs.Listing.{Item, IsListing}
 use Rattle.folder_spec.specs.View.{View, kind_found}
 use Rattle.work_folder.specs.declared.fault.WorkFault.TheVariants.{NoParent, WrongKind, Foreign, Begun, Depth, Failed, NoMemory}
 use Rattle.work_folder.specs.Entries.{is_foreign, IsForeign, IsFirstForeign}
-use Rattle.work_folder.specs.Looking.{Answer, TestsEntries, Gives}
+use Rattle.work_folder.specs.Looking.{Looked, TestsEntries, Gives}
 use Rattle.work_folder.specs.Picking.{NoneBefore, IsFirstAt, Picks}
 
 -- what is foreign stands there
@@ -58,7 +58,7 @@ module _ (old : Bool) (v : View) (work : Path) (items : List Item) (listing : Is
           let ordered : slice_cmp nat_cmp (slice_index_or items n y).name (slice_index_or items k y).name ≡ Less = listing.ordered n k y more fits in
           subst (λ (z : Item). slice_cmp nat_cmp z.name other ≡ Less) (at.is y) (subst (λ (z : Item). slice_cmp nat_cmp (slice_index_or items n y).name z.name ≡ Less) is ordered)
 
-  pub listed : (answer : Answer) → Picks old work items answer → Gives (TestsEntries old v work) answer
+  pub listed : (answer : Looked) → Picks old work items answer → Gives (TestsEntries old v work) answer
   listed (Ok done) none =
       inl (
         (λ name foreign. let p : (k : ℕ) × (k < length items) × (slice_index_or items k (record { name = name; kind = kind_found (v (child work name)) }) ≡ record { name = name; kind = kind_found (v (child work name)) }) = place_of name foreign in
@@ -73,7 +73,7 @@ module _ (old : Bool) (v : View) (work : Path) (items : List Item) (listing : Is
   listed (Err Failed) h = absurd h
   listed (Err NoMemory) h = tt
 
-pub picks_not_failed : (old : Bool) (work : Path) (items : List Item) (answer : Answer) → Picks old work items answer → answer ≢ Err Failed
+pub picks_not_failed : (old : Bool) (work : Path) (items : List Item) (answer : Looked) → Picks old work items answer → answer ≢ Err Failed
 picks_not_failed old work items (Ok done) h e = cc e
 picks_not_failed old work items (Err (NoParent p)) h e = cc e
 picks_not_failed old work items (Err (WrongKind p)) h e = cc e

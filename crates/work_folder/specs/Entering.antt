@@ -10,7 +10,7 @@ use Rattle.folder_staging.specs.Removal.{Reach, below_only, deepest, IsWithin, I
 use Rattle.work_folder.specs.declared.fault.WorkFault.{WorkFault}
 use Rattle.work_folder.specs.declared.fault.WorkFault.TheVariants.{NoParent, WrongKind, Foreign, Begun, Depth, Failed, NoMemory}
 use Rattle.work_folder.specs.Entries.{new_journal_path, stage_path}
-use Rattle.work_folder.specs.Looking.{Answer, Tests, Gives}
+use Rattle.work_folder.specs.Looking.{Looked, Tests, Gives}
 use Rattle.work_folder.specs.Changing.{ChangesAt, Alters}
 
 -- all below the stage
@@ -44,7 +44,7 @@ pub record IsFresh (v : View) (work : Path) : Type 0 where
 
 -- What emptying the stage answers: `Depth` only where something stands more than 128 parts below it, `Foreign` only of what is
 -- neither a file nor a directory there, and no refusal only where there is neither.
-abbrev pub Empties : View → Path → Answer → Type 0
+abbrev pub Empties : View → Path → Looked → Type 0
 Empties v work (Ok done) = RemovesAs (below_stage work) v (Ok tt)
 Empties v work (Err (NoParent p)) = ⊥
 Empties v work (Err (WrongKind p)) = ⊥
@@ -55,7 +55,7 @@ Empties v work (Err Failed) = Unit {0}
 Empties v work (Err NoMemory) = Unit {0}
 
 -- what entering answers: a test fails, or all pass and the stage is emptied
-abbrev pub EntersAs : View → Path → Answer → Type 0
+abbrev pub EntersAs : View → Path → Looked → Type 0
 EntersAs v work answer = (Tests v work answer × (answer ≢ Ok tt)) ⊎ (Tests v work (Ok tt) × Empties v work answer)
 
 -- A call makes a work folder ready, from what a folder told and its count of faults before to those afterwards.
@@ -77,7 +77,7 @@ pub record Restages {T : Type 0} (work : Path) (before after : Option Told) (old
   pub failed : result ≡ Err Failed → CountRose old new
 
 -- Before the stage is made ready the work folder is made and `journal.new` removed (private contracts only).
-pub record Prepares (work : Path) (before after : Option Told) (old new : ℕ) (result : Answer) : Type 0 where
+pub record Prepares (work : Path) (before after : Option Told) (old new : ℕ) (result : Looked) : Type 0 where
   pub moments : Alters (λ q. q ≡ work) (λ q. q ≡ new_journal_path work) before after
   pub folder : OnOk result (IfSeen after (λ v. v work ≡ Folder))
   pub gone : OnOk result (IfSeen after (λ v. v (new_journal_path work) ≡ NoEntry))

@@ -4,7 +4,7 @@ use Rattle.folder_spec.specs.Path.{Path, child}
 use Rattle.folder_spec.specs.Listing.{Item}
 use Rattle.work_folder.specs.declared.fault.WorkFault.TheVariants.{NoParent, WrongKind, Foreign, Begun, Depth, Failed, NoMemory}
 use Rattle.work_folder.specs.Entries.{is_foreign}
-use Rattle.work_folder.specs.Looking.{Answer}
+use Rattle.work_folder.specs.Looking.{Looked}
 
 -- none of the first n items is foreign
 abbrev pub NoneBefore : Bool → List Item → ℕ → Type 0
@@ -18,7 +18,7 @@ pub record IsFirstAt (old : Bool) (items : List Item) (n : ℕ) (x : Item) : Typ
   pub foreign : IsTrue (is_foreign old x.name x.kind)
   pub first : NoneBefore old items n
 
-abbrev pub Picks : Bool → Path → List Item → Answer → Type 0
+abbrev pub Picks : Bool → Path → List Item → Looked → Type 0
 Picks old work items (Ok done) = NoneBefore old items (length items)
 Picks old work items (Err (NoParent p)) = ⊥
 Picks old work items (Err (WrongKind p)) = ⊥

@@ -18,7 +18,7 @@ use Rattle.migrate_core.proofs.Endings.{if_ok_more}
 use Rattle.migrate_core.specs.Moved.{IsTidyWork, Moved, StaysTidyWork, lacking, done_of}
 use Rattle.migrate_core.proofs.Causing.{moves_pass, never_more}
 use Rattle.migrate_core.specs.Causes.{IsOfMoving, Moves, Unless, StopsAt}
-use Rattle.migrate_core.specs.Copying.{HaveOwnFolders}
+use Rattle.migrate_core.specs.Copying.{BothHaveOwnFolders}
 use Rattle.migrate_core.specs.Faults.{of_folder, of_work}
 use Rattle.migrate_core.proofs.Writings.{changing_writes, in_first, journal_written, nothing_yet, beside_on, stop_is_test, texts_first, texts_then}
 use Rattle.migrate_core.proofs.WrittenTrees.{none_ordered}
@@ -218,7 +218,7 @@ returns-in_err-entered-clause-cause g c v seen =
     let to = c.args.sides.now.target in
     let mapped = c.args.items.now.mapped.items in
     refused_as (λ answer. Unless answer (Moves (EntersAs v work) from to v mapped answer)) c.from_residual.result c.from_residual.ensures.1
-    (work_refused of_work (EntersAs v work) (λ _. IsOfMoving (HaveOwnFolders from to v) (StopsAt (HaveOwnFolders from to v) from v mapped)) c.in_err-entered.field-0.0 (c.in_err-entered.ensures.enters.answer v seen))
+    (work_refused of_work (EntersAs v work) (λ _. IsOfMoving (BothHaveOwnFolders from to v) (StopsAt (BothHaveOwnFolders from to v) from v mapped)) c.in_err-entered.field-0.0 (c.in_err-entered.ensures.enters.answer v seen))
 
 pub returns-in_err-journal-clause-cause : goal.returns-in_err-journal-clause-cause
 returns-in_err-journal-clause-cause g c v seen =
@@ -229,7 +229,7 @@ returns-in_err-journal-clause-cause g c v seen =
     let fault = c.in_err-journal.field-0.0 in
     refused_as (λ answer. Unless answer (Moves (EntersAs v work) from to v mapped answer)) c.from_residual-in_err-journal.result c.from_residual-in_err-journal.ensures.1
     (moves_pass (EntersAs v work) from to v mapped (Err fault) (c.in_ok-entered.ensures.enters.answer v seen)
-    (never_more (HaveOwnFolders from to v) (StopsAt (HaveOwnFolders from to v) from v mapped) fault c.in_err-journal.ensures.moving))
+    (never_more (BothHaveOwnFolders from to v) (StopsAt (BothHaveOwnFolders from to v) from v mapped) fault c.in_err-journal.ensures.moving))
 
 pub returns-in_err-write-clause-cause : goal.returns-in_err-write-clause-cause
 returns-in_err-write-clause-cause g c v seen =

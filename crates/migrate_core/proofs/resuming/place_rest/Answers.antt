@@ -17,7 +17,7 @@ use Rattle.folder_spec.specs.Seen.{IfSeen}
 use Rattle.migrate_core.proofs.Endings.{if_ok_more}
 use Rattle.migrate_core.specs.Moved.{Moved, lacking, done_of}
 use Rattle.migrate_core.specs.Causes.{IsOfMoving, Moves, Unless, StopsAt, StopsSeen}
-use Rattle.migrate_core.specs.Copying.{HasCopied, HaveOwnFolders, CopiesAll, StayGood}
+use Rattle.migrate_core.specs.Copying.{HasCopied, BothHaveOwnFolders, CopiesAll, StayGood}
 use Rattle.migrate_core.specs.Faults.{of_work}
 use Rattle.migrate_core.proofs.Writings.{changing_writes, nothing_yet, only_more, texts_then}
 use Rattle.migrate_core.specs.Written.{BringsOnlyTo, WritesBy, lacked, WritesBeside}
@@ -150,7 +150,7 @@ returns-in_err-again-clause-cause g c v seen =
     let work = c.args.work.now in
     let mapped = c.args.items.now.mapped.items in
     refused_as (λ answer. Unless answer (Moves (Empties v work) from to v mapped answer)) c.from_residual.result c.from_residual.ensures.1
-    (work_refused of_work (Empties v work) (λ _. IsOfMoving (HaveOwnFolders from to v) (StopsAt (HaveOwnFolders from to v) from v mapped)) c.in_err-again.field-0.0 (c.in_err-again.ensures.restages.answer v seen))
+    (work_refused of_work (Empties v work) (λ _. IsOfMoving (BothHaveOwnFolders from to v) (StopsAt (BothHaveOwnFolders from to v) from v mapped)) c.in_err-again.field-0.0 (c.in_err-again.ensures.restages.answer v seen))
 
 pub returns-clause-cause : goal.returns-clause-cause
 returns-clause-cause g c v seen =

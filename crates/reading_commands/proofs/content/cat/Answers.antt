@@ -5,7 +5,7 @@ use Rattle.std.specs.Prelude.{MatchResult, IsTrue}
 use Rattle.vault_read.specs.Contents.{IsCatFault, content_at}
 use Rattle.vault_spec.specs.Format.{file_bytes}
 use Rattle.vault_spec.specs.Vault.{format_of}
-use Rattle.reading_commands.specs.Cat.{ShowsContent, ShowsFile, is_of_finding}
+use Rattle.reading_commands.specs.Cat.{ShowsContent, ShowsContentFile, is_of_finding}
 use Rattle.reading_commands.specs.Finding.{answer_to_finding}
 use Rattle.open_for_reading.specs.Shown.{Reads, is_of_damage, is_of_opening, refused}
 use Rattle.command_answers.specs.declared.answer.Answer.TheVariants.{OutputFault}
@@ -24,7 +24,7 @@ returns-in-Err-clause-writes g c left ended random =
     (content_is_one c.roots_have_one_answer.ensures target) c.in-Err.ensures.told (or_left (is_of_opening c.in-Err.answer) (is_of_damage c.in-Err.answer) c.in-Err.ensures.own)
     (λ v is. unless_opened v target.vault target.pass c.in-Err.answer
     (λ vault. MatchResult (content_at (format_of vault) target.vault v target.path)
-    (λ at. ShowsFile (format_of vault).content (target.vault ++ at) (file_bytes (v (target.vault ++ at))) (refused c.in-Err.answer))
+    (λ at. ShowsContentFile (format_of vault).content (target.vault ++ at) (file_bytes (v (target.vault ++ at))) (refused c.in-Err.answer))
     (λ refusal. refused c.in-Err.answer ≡ refused (answer_to_finding target.vault refusal))) (c.in-Err.ensures.refused v is)) in
     record {
       reads = reads;

@@ -12,7 +12,7 @@ use Rattle.retire_core.proofs.Going.{rest_same}
 use Rattle.migration_spec.proofs.Tellings.{seen_before}
 use Rattle.retire_core.proofs.Starts.{IsKnown, comes_by_done, comes_missing, missing_by_kind, on_ok_more, rest_by_done, there_by_kind}
 use Rattle.retire_core.specs.Clearing.{IsGone, IsInOrder, MovesHeldOnly}
-use Rattle.retire_core.specs.Guarding.{ComesFromDone, ComesTo, KeepsDone}
+use Rattle.retire_core.specs.Guarding.{ComesFromDone, ComesToRetiring, KeepsDone}
 use Rattle.retire_core.specs.Retiring.{retiring_by}
 use Rattle.migration_sides.proofs.Chains.{fault_as, passed_is, refused_as}
 use Rattle.migration_sides.proofs.Told.{folder_unless}
@@ -85,7 +85,7 @@ returns-clause-comes g c =
     let isnt : kind ≢ Missing = (λ is. let equal : false ≡ true = sym c.if-eq.false ∙ c.eq.ensures ∙ ap (λ k. sameb the_type k Missing) is in cc equal) in
     let r = retiring_by work c.args.source_pass.now c.args.target_pass.now journal in
     on_ok_more ((migration : Migration) → migration.source.root ≡ journal.source → migration.work ≡ work → ComesFromDone migration t2 t3)
-    ((migration : Migration) → migration.work ≡ work → ComesTo migration t0 t3) c.move_held.result
+    ((migration : Migration) → migration.work ≡ work → ComesToRetiring migration t0 t3) c.move_held.result
     (λ comes migration at_work.
     comes_by_done migration journal r t0 t3
     (record { one_journal = c.journals_are_read_back.ensures.stands; is = c.requires.journal; done = c.requires.phase; stands = λ v seen. subst (λ w. StandsIn w journal v) (sym at_work) (c.requires.stands v seen) })

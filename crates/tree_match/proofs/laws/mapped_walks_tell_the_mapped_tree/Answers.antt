@@ -4,14 +4,14 @@ use Rattle.tree_match.proofs.HeldTrees.{FilesAreThere, PlansAreTheTree, can_matc
 use Rattle.tree_match.proofs.MappedTrees.{apart, in_mapped, mapped_tells, none_meet, opens_in, tree_by}
 use Rattle.tree_match.proofs.ToldTrees.{TellsTree, opens_content, opens_directory, walk_tells}
 use Rattle.tree_match.specs.Comparing.{content_at}
-use Rattle.tree_match.specs.Trees.{IsMappedWalkOf, Side, side_with, tree_of}
+use Rattle.tree_match.specs.Trees.{IsMappedWalkOf, PlannedVault, with_items, tree_of}
 use Rattle.vault_spec.specs.Opens.{Content, Directory}
 use Rattle.vault_spec.specs.Vault.{format_of}
 use Rattle.tree_match.proofs.laws.mapped_walks_tell_the_mapped_tree.Goals as goal
 
 -- the vault's own items tell its tree
-own_tells : FilesAreThere → PlansAreTheTree → (v : View) (names : NameMap) (a : Side) (walk : IsMappedWalkOf names v a) → TellsTree v (side_with a walk.own) (tree_of v a)
-own_tells files plans v names a walk = walk_tells files plans v (side_with a walk.own) walk.walk
+own_tells : FilesAreThere → PlansAreTheTree → (v : View) (names : NameMap) (a : PlannedVault) (walk : IsMappedWalkOf names v a) → TellsTree v (with_items a walk.own) (tree_of v a)
+own_tells files plans v names a walk = walk_tells files plans v (with_items a walk.own) walk.walk
 
 pub returns-clause-apart : goal.returns-clause-apart
 returns-clause-apart c v names a walk = apart v names a walk (own_tells c.files_have_their_contents.ensures c.plans_are_the_tree.ensures v names a walk)

@@ -6,24 +6,24 @@ use Rattle.tree_match.proofs.MappedPlans.{matchable}
 use Rattle.tree_match.proofs.MappedTrees.{MapsItems, held_from, held_to, mapped_tells, maps, part_from, part_to, tree_by}
 use Rattle.tree_match.proofs.SameTrees.{one_tree_matches, part_matches}
 use Rattle.tree_match.proofs.ToldTrees.{TellsTree, walk_tells}
-use Rattle.tree_match.specs.Trees.{IsMappedWalkOf, Side, side_with, tree_of}
+use Rattle.tree_match.specs.Trees.{IsMappedWalkOf, PlannedVault, with_items, tree_of}
 use Rattle.tree_match.proofs.laws.what_is_held_opens_the_same.Goals as goal
 
 -- the mapped walk tells the mapped tree
-record IsMappedTree (v : View) (names : NameMap) (a : Side) : Type 0 where
+record IsMappedTree (v : View) (names : NameMap) (a : PlannedVault) : Type 0 where
   tells : TellsTree v a (tree_by v a)
   maps : MapsItems names (tree_of v a) (tree_by v a)
 
-mapped_tree : FilesAreThere → PlansAreTheTree → (v : View) (names : NameMap) (a : Side) → IsMappedWalkOf names v a → IsMappedTree v names a
+mapped_tree : FilesAreThere → PlansAreTheTree → (v : View) (names : NameMap) (a : PlannedVault) → IsMappedWalkOf names v a → IsMappedTree v names a
 mapped_tree files plans v names a walk =
-    let own : TellsTree v (side_with a walk.own) (tree_of v a) = walk_tells files plans v (side_with a walk.own) walk.walk in
+    let own : TellsTree v (with_items a walk.own) (tree_of v a) = walk_tells files plans v (with_items a walk.own) walk.walk in
     record { tells = mapped_tells v names a walk own; maps = maps v names a walk own }
 
 pub returns-clause-matchable : goal.returns-clause-matchable
 returns-clause-matchable c = can_match c.files_have_their_contents.ensures
 
 pub returns-clause-mapped : goal.returns-clause-mapped
-returns-clause-mapped c v names a walk = matchable v names walk.own a.items (can_match c.files_have_their_contents.ensures v (side_with a walk.own) walk.walk) walk.mapped
+returns-clause-mapped c v names a walk = matchable v names walk.own a.items (can_match c.files_have_their_contents.ensures v (with_items a walk.own) walk.walk) walk.mapped
 
 pub returns-clause-held : goal.returns-clause-held
 returns-clause-held c v names a b walk_a walk_b holds =

@@ -133,7 +133,7 @@ module _ (law : MadeIsAFront) (e e' : Encoding) (chunk stored : List ℕ) (goes_
   pub next_goes_on : GoesOnWith e e' chunk nonce stored
   next_goes_on = record {
     same_keys = same-keys;
-    open = ap (λ (x : Encoding). x.is_open) next;
+    is_open = ap (λ (x : Encoding). x.is_open) next;
     whole = λ drawn content file made. (goes_on drawn content file made).0;
     goes_on = λ drawn content file made full. (goes_on drawn content file made).1 full;
   }

@@ -117,7 +117,7 @@ pub record IsHeaded (keys : Keys) (empty : Bool) (stream stream' : Option ByteSt
   pub accepted : WereAccepted keys drawn
   pub same_keys : e.keys ≡ keys
   pub first : e.number ≡ 0
-  pub open : empty ≡ false → e.is_open ≡ true
+  pub is_open : empty ≡ false → e.is_open ≡ true
   pub whole : empty ≡ true → IsEncrypted keys drawn [] made
   pub goes_on : empty ≡ false → HasMade e drawn [] made
 
@@ -169,7 +169,7 @@ module _ (keys : Keys) (chunk : List ℕ) (stream stream' : Option ByteStream) w
         ends = record {
           same_keys = h.same_keys;
           few = omega (arith, h.first);
-          open = λ some. absurd (omega (arith, empty, some));
+          is_open = λ some. absurd (omega (arith, empty, some));
           whole = whole;
           goes_on = λ full. absurd (short full);
         };
@@ -180,7 +180,7 @@ front_by : (keys : Keys) (chunk header piece : List ℕ) (stream stream1 : Optio
 front_by keys chunk header piece stream stream1 e e' (Ok done) h drawn some later ends = record {
   same_keys = ends.same_keys ∙ h.same_keys;
   few = omega (arith, later, h.first, some);
-  open = λ _. ends.open ∙ h.open refl;
+  is_open = λ _. ends.is_open ∙ h.is_open refl;
   whole = subst (λ (k : Keys). IsEncrypted k (h.drawn ++ drawn) chunk (header ++ piece)) h.same_keys (ends.whole h.drawn [] header (h.goes_on refl));
   goes_on = λ full. ends.goes_on h.drawn [] header (h.goes_on refl) (full ∙ ap (λ (k : Keys). (format_of k).full_size) (sym h.same_keys));
 }
@@ -231,7 +231,7 @@ headed keys empty stream stream' none made e first undrawn bare header = by_test
       accepted = none_accepted keys;
       same_keys = same;
       first = number;
-      open = opened;
+      is_open = opened;
       whole = λ _. bare is;
       goes_on = λ some. absurd (let clash : false ≡ true = sym some ∙ empty_of empty is in cc);
     }
@@ -243,7 +243,7 @@ headed keys empty stream stream' none made e first undrawn bare header = by_test
           accepted = λ long. subst (λ (k : Keys). AreAccepted (format_of k) h.drawn) same h.made.accepted;
           same_keys = same;
           first = number;
-          open = opened;
+          is_open = opened;
           whole = λ none_. h.whole (headerless empty none_ is);
           goes_on = λ _. h.made;
         }

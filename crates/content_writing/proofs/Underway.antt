@@ -79,7 +79,7 @@ module _ (w : Start) where
       staged = subst (λ (t : Option Told). IsStaged w.at b.made t told) same b.ends.1;
       whole = b.ends.0.whole;
       goes_on = b.ends.0.goes_on;
-      open = λ all. b.ends.0.open (omega (arith, all, some_full w.keys));
+      is_open = λ all. b.ends.0.is_open (omega (arith, all, some_full w.keys));
       size = size;
       last = h.ends;
     }
@@ -125,7 +125,7 @@ module _ (w : Start) where
         staged = staged_now;
         whole = i.whole;
         goes_on = λ full_. absurd (omega (arith, full_, ap length none, some_full));
-        open = λ full_. absurd (omega (arith, full_, ap length none, some_full));
+        is_open = λ full_. absurd (omega (arith, full_, ap length none, some_full));
         size = omega (arith, ap length none);
         last = last_now;
       }
@@ -163,7 +163,7 @@ module _ (w : Start) where
           staged = s.staged w.told i.made staged_now;
           whole = subst (λ (k : Keys). IsEncrypted k (i.drawn ++ s.drawn) given (i.made ++ s.piece)) i.same_keys (s.ends.whole i.drawn i.content i.made (i.goes_on all));
           goes_on = λ full_. s.ends.goes_on i.drawn i.content i.made (i.goes_on all) (full_ ∙ ap (λ (k : Keys). (format_of k).full_size) (sym i.same_keys));
-          open = λ _. s.ends.open ∙ i.open all;
+          is_open = λ _. s.ends.is_open ∙ i.is_open all;
           size = size;
           last = last_now;
         }

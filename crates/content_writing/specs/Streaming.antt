@@ -78,7 +78,7 @@ IsNextChunk keys chunk rest = (length chunk ≡ (format_of keys).full_size) ⊎ 
 pub record IsFront (keys : Keys) (chunk drawn made : List ℕ) (e : Encoding) : Type 0 where
   pub same_keys : e.keys ≡ keys
   pub few : e.number ≤ length chunk
-  pub open : 0 < length chunk → e.is_open ≡ true
+  pub is_open : 0 < length chunk → e.is_open ≡ true
   pub whole : IsEncrypted keys drawn chunk made
   pub goes_on : length chunk ≡ (format_of keys).full_size → HasMade e drawn chunk made
 
@@ -111,7 +111,7 @@ pub record BeginsContent (keys : Keys) (chunk : List ℕ) (at : Path) (stream st
 -- what was made ends the file of the content with this chunk; where that is full, more may follow
 pub record GoesOnWith (e e' : Encoding) (chunk drawn piece : List ℕ) : Type 0 where
   pub same_keys : e'.keys ≡ e.keys
-  pub open : e'.is_open ≡ e.is_open
+  pub is_open : e'.is_open ≡ e.is_open
   pub whole : (drawn0 content file : List ℕ) → HasMade e drawn0 content file → IsEncrypted e.keys (drawn0 ++ drawn) (content ++ chunk) (file ++ piece)
   pub goes_on : (drawn0 content file : List ℕ) → HasMade e drawn0 content file → length chunk ≡ (format_of e.keys).full_size
       → HasMade e' (drawn0 ++ drawn) (content ++ chunk) (file ++ piece)
@@ -155,6 +155,6 @@ pub record IsUnderway (w : Start) (e : Encoding) (chunk : List ℕ) (told : Opti
   pub staged : IsStaged w.at made w.told told
   pub whole : IsEncrypted w.keys drawn content made
   pub goes_on : length chunk ≡ (format_of w.keys).full_size → HasMade e drawn content made
-  pub open : length chunk ≡ (format_of w.keys).full_size → e.is_open ≡ true
+  pub is_open : length chunk ≡ (format_of w.keys).full_size → e.is_open ≡ true
   pub size : length chunk ≤ (format_of w.keys).full_size
   pub last : length chunk < (format_of w.keys).full_size → HasEnded Whole w.coming left

@@ -7,10 +7,7 @@ ghost use Rattle.vault_faults.specs.Limits.{content_limit};
 
 use item_making::PutFault;
 use port_model::Source;
-use vault_faults::Limit;
-
-// The most bytes of a content, 2^40.
-const CONTENT_LIMIT: u64 = 1_099_511_627_776;
+use vault_faults::{CONTENT_LIMIT, Limit};
 
 // Room for so many bytes, and whether a byte past them was seen. That byte is gone from the source.
 #[derive(Drop)]

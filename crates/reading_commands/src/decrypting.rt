@@ -17,6 +17,7 @@ use chunk_files::{ChunkBuf, ChunkFault, ContentKeys, Decoder, Step};
 use command_answers::Answer;
 use port_model::{Sink, Source, SourceFault};
 use std::alloc::Global;
+use vault_faults::CONTENT_LIMIT;
 
 /// How `decrypt-file` ends.
 #[derive(Clone, Copy, PartialEq, Eq)]
@@ -34,8 +35,6 @@ pub enum DecryptEnd {
     /// The input is longer than the limit, and has no fault before it.
     TooLong,
 }
-
-const INPUT_LIMIT: u64 = 1_099_511_627_776;
 
 const PIECE_SIZE: usize = 32_768;
 
@@ -109,12 +108,12 @@ fn stream<I: Source, O: Sink>(
     ensures output_counted { O.faults out.old ≤ O.faults out.new }
 {
     let mut fed = 0;
-    'pieces: while fed < INPUT_LIMIT {
+    'pieces: while fed < CONTENT_LIMIT {
         match write_chunks(decoder, chunk, out) {
             Some(answer) => return answer,
             None => {}
         }
-        match feed_piece(decoder, input, INPUT_LIMIT - fed) {
+        match feed_piece(decoder, input, CONTENT_LIMIT - fed) {
             Ok(0) => return write_rest(decoder, chunk, out),
             Ok(count) => fed += count as u64,
             Err(_) => return DecryptEnd::InputFault,

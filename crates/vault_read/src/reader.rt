@@ -15,10 +15,7 @@ use folder_model::{FPath, Folder};
 use folder_spec::FolderFault;
 use std::alloc::{AllocError, Global};
 use std::marker::Model;
-use vault_faults::{CatFault, Limit};
-
-// The most bytes of a content file, 2^40.
-const CONTENT_LIMIT: u64 = 1_099_511_627_776;
+use vault_faults::{CONTENT_LIMIT, CatFault, Limit};
 
 /// A reader of one content file, which gives its chunks in order.
 ///

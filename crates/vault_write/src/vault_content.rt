@@ -11,10 +11,8 @@ use chunk_files::ChunkBuf;
 use content_writing::{Content, PutFault};
 use folder_model::{FPath, Folder};
 use std::alloc::{AllocError, Global};
+use vault_faults::CONTENT_LIMIT;
 use vault_read::{ContentReader, Vault};
-
-// The most bytes of a content, 2^40.
-const CONTENT_LIMIT: u64 = 1_099_511_627_776;
 
 /// What a reader of a vault's file still gives, as the content of another file.
 #[derive(Drop)]

@@ -130,7 +130,7 @@ pub store_chunk-requires-clause-open : goal.store_chunk-requires-clause-open
 store_chunk-requires-clause-open g c =
     let full : c.full-full.result ≡ (format_of c.args.keys).full_size = full_at c.args.keys c.layout.result c.full-full.result c.layout.ensures c.full-full.ensures in
     let all : length c.chunks.plain ≡ (format_of c.args.keys).full_size = omega (arith, c.len.ensures, c.chunks-test.true, full) in
-    c.chunks.invariant.underway.open all
+    c.chunks.invariant.underway.is_open all
 
 pub chunks-preserved : goal.chunks-preserved
 chunks-preserved g c =

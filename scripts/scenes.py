@@ -9,8 +9,9 @@ import typing
 
 from vault_writer import Cryptomator, CryptomatorTree, Gocryptfs, GocryptfsTree
 
-KINDS = ["gocryptfs", "cryptomator"]
+KINDS = ["gocryptfs", "cryptomator", "cryptomator-ctrmac"]
 LONG = b"a long name " * 15
+DECOMPOSED = "e\u0301 decomposed".encode()
 PASS = ["--pass", "pass"]
 WORK = ["--pass", "pass", "--work", "w"]
 BOTH = ["--from-pass", "pass", "--to-pass", "pass"]
@@ -36,7 +37,7 @@ def vault(kind, root, directories=(), files=()):
         tree.root(writer.configuration(b"demo", 2, 1), bytes([1]) * 16)
         homes, made = [""], lambda n: bytes([n]) * 16
     else:
-        writer = Cryptomator(bytes(range(32)), bytes(range(32, 64)))
+        writer = Cryptomator(bytes(range(32)), bytes(range(32, 64)), combo="SIV_GCM" if kind == "cryptomator" else "SIV_CTRMAC")
         tree = CryptomatorTree(writer)
         tree.root(writer.configuration(b"demo", 2, 1))
         homes, made = [b""], lambda n: f"{n:08x}-1111-4111-8111-111111111111".encode()
@@ -65,8 +66,9 @@ def stray(kind, room):
 
 
 def sides(kind, tree, room):
+    """A vault and an empty one of the kind behind its own, so that each kind is a source and a target."""
     vault(kind, room / "v", *tree)
-    vault(KINDS[1 - KINDS.index(kind)], room / "t")
+    vault(KINDS[(KINDS.index(kind) + 1) % len(KINDS)], room / "t")
 
 
 def begun(kind, room):
@@ -97,7 +99,11 @@ def scenes():
         def many(room, kind=kind):
             sides(kind, FORTY, room)
 
+        def decomposed(room, kind=kind):
+            sides(kind, ([(0, DECOMPOSED)], [(1, b"x", b"hello"), (1, DECOMPOSED, b"there")]), room)
+
         migrate = ["migrate", "v", "t", "w", *BOTH]
+        yield Scene(f"{kind} init", lambda room: None, ["init", kind, "v", *WORK], roots=["v"])
         yield Scene(f"{kind} mkdir", small, ["mkdir", "v", "a/new", *WORK], roots=["v"])
         yield Scene(f"{kind} put", small, ["put", "v", "a/x", *WORK], b"hi" * 3000, ["v"])
         yield Scene(f"{kind} put new", small, ["put", "v", "a/" + LONG.decode(), *WORK], b"hi", ["v"])
@@ -106,6 +112,7 @@ def scenes():
         yield Scene(f"{kind} fsck", strays, ["fsck", "v", *PASS], roots=["v"])
         yield Scene(f"{kind} repair", strays, ["repair", "v", "lost", *PASS], roots=["v"])
         yield Scene(f"{kind} migrate", two, migrate, roots=["v", "t"])
+        yield Scene(f"{kind} migrate --nfc", decomposed, [*migrate, "--nfc"], roots=["v", "t"])
         yield Scene(f"{kind} resume begun", journal, ["resume", "w", *BOTH], roots=["v", "t"])
         yield Scene(f"{kind} resume done", two, ["resume", "w", *BOTH], roots=["v", "t"], before=[migrate])
         yield Scene(f"{kind} retire", two, ["retire", "w", *BOTH], roots=["v", "t"], before=[migrate])

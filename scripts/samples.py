@@ -4,16 +4,13 @@
 The vault `g` is the first of vaults.rows, which gocryptfs 2.3 wrote while it was mounted; only its configuration is written anew, for a
 cheap scrypt, and a file with a long name is added. The vaults `c` and `t`, of either combination, are written here.
 """
-import base64
-import json
 import os
 import re
 
-from cryptography.hazmat.primitives.ciphers.aead import AESGCM
 from cryptography.hazmat.primitives.hashes import SHA256
 from cryptography.hazmat.primitives.kdf.hkdf import HKDF
 
-from vault_writer import Cryptomator, CryptomatorTree, Gocryptfs, GocryptfsTree, scrypt
+from vault_writer import Cryptomator, CryptomatorTree, Gocryptfs, GocryptfsTree, master_of
 
 VAULTS = os.path.join(os.path.dirname(__file__), "../crates/command_rows/data/vaults.rows")
 
@@ -29,16 +26,6 @@ OLD = {
     path: read_bytes(word)
     for path, word in re.findall(r"(?m)^file (g/\S+) ?(.*)$", open(VAULTS).read())
 }
-
-
-def master_of(configuration, passphrase):
-    fields = json.loads(configuration)
-    cost = fields["ScryptObject"]
-    key = HKDF(algorithm=SHA256(), length=32, salt=None, info=b"AES-GCM file content encryption").derive(
-        scrypt(passphrase, base64.b64decode(cost["Salt"]), cost["N"], cost["R"])
-    )
-    sealed = base64.b64decode(fields["EncryptedKey"])
-    return AESGCM(key).decrypt(sealed[:16], sealed[16:], bytes(8))
 
 
 def word_of(some):

@@ -28,6 +28,17 @@ def xor(one, other):
     return bytes(x ^ y for x, y in zip(one, other))
 
 
+def master_of(configuration, passphrase):
+    """The master key that a configuration of gocryptfs holds."""
+    fields = json.loads(configuration)
+    cost = fields["ScryptObject"]
+    key = HKDF(algorithm=SHA256(), length=32, salt=None, info=b"AES-GCM file content encryption").derive(
+        scrypt(passphrase, base64.b64decode(cost["Salt"]), cost["N"], cost["R"])
+    )
+    sealed = base64.b64decode(fields["EncryptedKey"])
+    return AESGCM(key).decrypt(sealed[:16], sealed[16:], bytes(8))
+
+
 class Gocryptfs:
     """The names and contents of a gocryptfs vault with a master key. Sixteen-byte nonces count up, and none is zero."""
 

@@ -113,34 +113,34 @@ gives_still reads reads0 told told0 result out f g same there each =
     subst (λ (t : Option Told). Gives result out (still_coming reads0 t f) (still_coming reads0 t g)) there
     (subst (λ (r : Option Path). Gives result out (still_coming r told f) (still_coming r told g)) same (still_by reads told f g (Gives result out) tt each))
 
-fault_ends : (full : ℕ) (xs gathered out : List ℕ) (a b c : Option Coming) (fault : PutFault) → IsContentFault fault → Gave xs a b → Gives (Err fault) out b c
+fault_ends : (reads : Option Path) (full : ℕ) (xs gathered out : List ℕ) (a b c : Option Coming) (fault : PutFault) → IsContentFault reads fault → Gave xs a b → Gives (Err fault) out b c
     → EndsGathering full gathered a c (Err fault)
-fault_ends full xs gathered out a b c (puts.Damaged at f) is h k = ended_on (Damaged at f) xs a b c h (damaged b c k)
+fault_ends reads full xs gathered out a b c (puts.Damaged at f) is h k = ended_on (Damaged at f) xs a b c h (damaged b c k)
   where
     damaged : (b c : Option Coming) → Gives (Err (puts.Damaged at f)) out b c → HasEnded (Damaged at f) b c
     damaged None c k = tt
     damaged (Some b) None k = absurd k
     damaged (Some b) (Some c) k = ap Some (k.1 ∙ k.0)
-fault_ends full xs gathered out a b c (puts.Limit l) is h k = ended_on (TooLong l) xs a b c h (passed b c k)
+fault_ends reads full xs gathered out a b c (puts.Limit l) is h k = ended_on (TooLong l) xs a b c h (passed b c k)
   where
     passed : (b c : Option Coming) → Gives (Err (puts.Limit l)) out b c → HasEnded (TooLong l) b c
     passed None c k = tt
     passed (Some b) None k = absurd k
     passed (Some b) (Some c) k = ap Some (k.1 ∙ k.0)
-fault_ends full xs gathered out a b c puts.Source is h k = tt
-fault_ends full xs gathered out a b c puts.Failed is h k = tt
-fault_ends full xs gathered out a b c puts.NoMemory is h k = tt
-fault_ends full xs gathered out a b c puts.ZeroRandom is h k = absurd is
-fault_ends full xs gathered out a b c puts.Random is h k = absurd is
-fault_ends full xs gathered out a b c (puts.Find f) is h k = absurd is
-fault_ends full xs gathered out a b c (puts.NotAllowed p) is h k = absurd is
-fault_ends full xs gathered out a b c (puts.Taken p) is h k = absurd is
+fault_ends reads full xs gathered out a b c puts.Source is h k = tt
+fault_ends reads full xs gathered out a b c puts.Failed is h k = tt
+fault_ends reads full xs gathered out a b c puts.NoMemory is h k = tt
+fault_ends reads full xs gathered out a b c puts.ZeroRandom is h k = absurd is
+fault_ends reads full xs gathered out a b c puts.Random is h k = absurd is
+fault_ends reads full xs gathered out a b c (puts.Find f) is h k = absurd is
+fault_ends reads full xs gathered out a b c (puts.NotAllowed p) is h k = absurd is
+fault_ends reads full xs gathered out a b c (puts.Taken p) is h k = absurd is
 
 module _ (full : ℕ) (xs out : List ℕ) (a b c : Option Coming) (h : Gave xs a b) where
-  pub piece_fails : (fault : PutFault) → IsContentFault fault → Gives (Err fault) out b c → Gathers full xs a c (Err fault)
-  piece_fails fault is k = record {
+  pub piece_fails : (reads : Option Path) (fault : PutFault) → IsContentFault reads fault → Gives (Err fault) out b c → Gathers full xs a c (Err fault)
+  piece_fails reads fault is k = record {
     gave = subst (λ (ys : List ℕ). Gave ys a c) (append-nil xs) (gave_more xs [] a b c h (fault_gave fault out b c k));
-    ends = fault_ends full xs xs out a b c fault is h k;
+    ends = fault_ends reads full xs xs out a b c fault is h k;
   }
 
   pub piece_more : (n : ℕ) → Gives (Ok n) out b c → Gave (xs ++ take n out) a c

@@ -1,5 +1,5 @@
 -- What a source gives as a content.
-use Rattle.std.proofs.Common.{arith, ◌≡◌, ◌≤◌, ◌+◌, ◌-◌, ℕ, zero, suc, Bool, true, false, List, [], ◌++◌, length, take, Option, Some, None, Ok, refl, sym, ap, ◌∙◌, inl, inr, nat_le, if◌then◌else◌}
+use Rattle.std.proofs.Common.{arith, ◌≡◌, ◌≤◌, ◌+◌, ◌-◌, ℕ, zero, suc, Bool, true, false, List, [], ◌++◌, length, take, Option, Some, None, Result, Ok, Err, IfErr, ◌⊎◌, refl, sym, subst, ap, ◌∙◌, inl, inr, nat_le, if◌then◌else◌}
 use Rattle.std.proofs.lemmas.List.{length-append, length-take-le}
 use Rattle.std.proofs.lemmas.Bool.Decides.{leb_tells}
 use Rattle.std.proofs.Math.Dec.{leb-zero}
@@ -7,7 +7,9 @@ use Rattle.std.proofs.Math.Seq.{take-append-add}
 use Rattle.std.specs.Io.KnownBytes.{Consumes, IsAtEnd}
 use Rattle.vault_faults.specs.declared.fault.Limit.TheVariants.{Input}
 use Rattle.item_making.specs.Ending.{Whole, TooLong}
-use Rattle.content_writing.specs.Content.{ends, bytes_before, within, coming_from, Gives}
+use Rattle.content_writing.specs.Content.{ends, bytes_before, within, coming_from, Gives, IsContentFault}
+use Rattle.item_making.specs.declared.fault.PutFault.{PutFault}
+use Rattle.item_making.specs.declared.fault.PutFault.TheVariants as puts
 
 le_behind : (k a b : ℕ) → nat_le (k + a) (k + b) ≡ nat_le a b
 le_behind k a b = elim (leb_tells (k + a) (k + b)) [
@@ -46,3 +48,9 @@ taken room (suc n) out (Some xs) (Some ys) small fits moved end =
     let size : length (take (suc n) out) ≡ suc n = length-take-le (suc n) out fits in
     let all : room ≡ length (take (suc n) out) + (room - suc n) = omega (arith, size, small) in
     ap (within room) moved ∙ ap (λ k. within k (take (suc n) out ++ ys)) all ∙ within_behind (take (suc n) out) ys (room - suc n)
+
+-- an input fails or passes its limit, and no more
+pub source_fault : {T : Type 0} (result : Result T PutFault) → IfErr result (λ fault. (fault ≡ puts.Limit Input) ⊎ (fault ≡ puts.Source)) → IfErr result (λ fault. IsContentFault None fault)
+source_fault (Ok value) is = tt
+source_fault (Err fault) (inl is) = subst (IsContentFault None) (sym is) refl
+source_fault (Err fault) (inr is) = subst (IsContentFault None) (sym is) refl

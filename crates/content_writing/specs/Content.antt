@@ -2,14 +2,14 @@
 --
 -- A content reads at most one file of the folder, at a path that it names. What is still to come is a function of what stands
 -- there, so that a change elsewhere leaves it.
-use Rattle.std.specs.Prelude.{◌≡◌, ℕ, Bool, zero, suc, nat_le, List, [], ◌++◌, take, length, Option, Some, None, Result, Ok, Err, if◌then◌else◌}
+use Rattle.std.specs.Prelude.{◌≡◌, ◌≢◌, ℕ, Bool, zero, suc, nat_le, List, [], ◌++◌, take, length, Option, Some, None, Result, Ok, Err, if◌then◌else◌}
 use Rattle.chunk_files.specs.declared.fault.ChunkFault.{ChunkFault}
 use Rattle.folder_spec.specs.Path.{Path}
 use Rattle.folder_spec.specs.Event.{Told}
 use Rattle.folder_spec.specs.View.{Found, NoEntry, View}
 use Rattle.folder_spec.specs.Seen.{IfSeen, IsSeen, seen}
 use Rattle.vault_faults.specs.declared.fault.Limit.{Limit}
-use Rattle.vault_faults.specs.declared.fault.Limit.TheVariants.{Input}
+use Rattle.vault_faults.specs.declared.fault.Limit.TheVariants.{Depth, Input, Items, Length}
 use Rattle.item_making.specs.Ending.{Ending, Whole, Damaged, TooLong}
 use Rattle.item_making.specs.declared.fault.PutFault.{PutFault}
 use Rattle.item_making.specs.declared.fault.PutFault.TheVariants as puts
@@ -69,18 +69,33 @@ Gives result out None after = Unit {0}
 Gives result out (Some before) None = ⊥
 Gives result out (Some before) (Some after) = Steps result out before after
 
--- a fault that a content may answer
-abbrev pub IsContentFault : PutFault → Type 0
-IsContentFault (puts.Damaged at fault) = Unit {0}
-IsContentFault (puts.Limit limit) = Unit {0}
-IsContentFault puts.Source = Unit {0}
-IsContentFault puts.Failed = Unit {0}
-IsContentFault puts.NoMemory = Unit {0}
-IsContentFault (puts.Find fault) = ⊥
-IsContentFault (puts.NotAllowed path) = ⊥
-IsContentFault (puts.Taken at) = ⊥
-IsContentFault puts.ZeroRandom = ⊥
-IsContentFault puts.Random = ⊥
+-- the limit that a content may pass, by the path that it reads: that of its file, or of an input where it reads none
+abbrev pub IsContentLimit : Option Path → Limit → Type 0
+IsContentLimit reads Input = reads ≡ None
+IsContentLimit reads (Length at) = reads ≡ Some at
+IsContentLimit reads Items = ⊥
+IsContentLimit reads Depth = ⊥
+
+-- A fault that a content may answer, by the path that it reads. One that reads no path is an input's: its source fails, or it passes the
+-- limit, and nothing else.
+abbrev pub IsContentFault : Option Path → PutFault → Type 0
+IsContentFault reads (puts.Damaged at fault) = reads ≡ Some at
+IsContentFault reads (puts.Limit limit) = IsContentLimit reads limit
+IsContentFault reads puts.Source = reads ≡ None
+IsContentFault reads puts.Failed = reads ≢ None
+IsContentFault reads puts.NoMemory = reads ≢ None
+IsContentFault reads (puts.Find fault) = ⊥
+IsContentFault reads (puts.NotAllowed path) = ⊥
+IsContentFault reads (puts.Taken at) = ⊥
+IsContentFault reads puts.ZeroRandom = ⊥
+IsContentFault reads puts.Random = ⊥
+
+-- where a content is blamed, it may answer that
+abbrev pub FitsContent : Option Path → PutFault → Type 0
+FitsContent reads (puts.Damaged at fault) = IsContentFault reads (puts.Damaged at fault)
+FitsContent reads (puts.Limit limit) = IsContentFault reads (puts.Limit limit)
+FitsContent reads puts.Source = IsContentFault reads puts.Source
+FitsContent reads fault = Unit {0}
 
 -- these bytes were given of what was to come, and the rest is still to come; what was told stays told
 abbrev pub Gave : List ℕ → Option Coming → Option Coming → Type 0

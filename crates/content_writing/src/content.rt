@@ -42,7 +42,7 @@ pub trait Content<F: Folder> {
         ensures size { IfOk result (λ n. n ≤ most) }
         ensures room { IfOk result (λ n. n + room self.new ≤ room self.old) }
         ensures shrinks { room self.new ≤ room self.old }
-        ensures fault { IfErr result (λ fault. IsContentFault fault) }
+        ensures fault { IfErr result (λ fault. IsContentFault (reads self.old) fault) }
         ensures failed { result ≡ Err PutFault.Failed → CountRose (F.faults folder.old) (F.faults folder.new) }
         ensures source { result ≡ Err PutFault.Source → CountRose (faults self.old) (faults self.new) }
         ensures grows { F.faults folder.old ≤ F.faults folder.new }

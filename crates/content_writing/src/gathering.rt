@@ -1,6 +1,6 @@
 //! Gathering the pieces of a content into chunks.
-ghost use Rattle.std.specs.Prelude.{◌≡◌, ◌≤◌, ◌+◌, length};
-ghost use Rattle.content_writing.specs.Content.{IsReady, still_coming};
+ghost use Rattle.std.specs.Prelude.{◌≡◌, ◌≤◌, ◌+◌, length, IfErr};
+ghost use Rattle.content_writing.specs.Content.{IsContentFault, IsReady, still_coming};
 ghost use Rattle.content_writing.specs.Streaming.{Gathers};
 ghost use Rattle.content_writing.specs.Writing.{Blames};
 
@@ -25,6 +25,7 @@ pub(crate) fn gather<F: Folder, C: Content<F>>(
     ensures ready { IsReady (C.reads content.new) (F.told folder.new) (C.coming content.new) }
     ensures lender { C.lender content.new ≡ C.lender content.old }
     ensures gathered { Gathers full plain.new (still_coming (C.reads content.old) (F.told folder.old) (C.coming content.old)) (still_coming (C.reads content.old) (F.told folder.old) (C.coming content.new)) result }
+    ensures fault { IfErr result (λ fault. IsContentFault (C.reads content.old) fault) }
     ensures size { length plain.new ≤ full }
     ensures room { length plain.new + C.room content.new ≤ C.room content.old }
     ensures failed { Blames result PutFault.Failed (F.faults folder.old) (F.faults folder.new) }

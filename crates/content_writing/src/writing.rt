@@ -1,7 +1,7 @@
 //! Writing a content as a content file, one chunk at a time.
-ghost use Rattle.std.specs.Prelude.{◌≡◌, ◌≤◌};
+ghost use Rattle.std.specs.Prelude.{◌≡◌, ◌≤◌, IfErr};
 ghost use Rattle.folder_staging.specs.Places.{IsStage};
-ghost use Rattle.content_writing.specs.Content.{IsReady, still_coming};
+ghost use Rattle.content_writing.specs.Content.{FitsContent, IsReady, still_coming};
 ghost use Rattle.content_writing.specs.Writing.{Blames, ReadsApart, WritesContent};
 
 use crate::content::Content;
@@ -58,6 +58,7 @@ pub fn write_content<F: Folder, R: Randoms, C: Content<F>>(
     requires apart { ReadsApart (C.reads content.old) staged.now }
     ensures written { WritesContent keys staged.now (still_coming (C.reads content.old) (F.told folder.old) (C.coming content.old)) (still_coming (C.reads content.old) (F.told folder.old) (C.coming content.new))
         (R.left random.old) (R.left random.new) (F.told folder.old) (F.told folder.new) result }
+    ensures fits { IfErr result (λ fault. FitsContent (C.reads content.old) fault) }
     ensures reads { C.reads content.new ≡ C.reads content.old }
     ensures room { C.room content.new ≤ C.room content.old }
     ensures lender { C.lender content.new ≡ C.lender content.old }
@@ -94,6 +95,7 @@ fn write_chunks<F: Folder, R: Randoms, C: Content<F>>(
     requires apart { ReadsApart (C.reads content.old) staged.now }
     ensures written { WritesContent keys staged.now (still_coming (C.reads content.old) (F.told folder.old) (C.coming content.old)) (still_coming (C.reads content.old) (F.told folder.old) (C.coming content.new))
         (R.left random.old) (R.left random.new) (F.told folder.old) (F.told folder.new) result }
+    ensures fits { IfErr result (λ fault. FitsContent (C.reads content.old) fault) }
     ensures reads { C.reads content.new ≡ C.reads content.old }
     ensures room { C.room content.new ≤ C.room content.old }
     ensures lender { C.lender content.new ≡ C.lender content.old }

@@ -116,17 +116,17 @@ directory_own put.Random own = tt
 directory_own put.Failed own = tt
 directory_own put.NoMemory own = tt
 
-pub file_own : (fault : PutFault) → IsFileFault fault → fault ≢ put.Source → IsItemFault fault
-file_own (put.Find fault) own other = own
-file_own (put.NotAllowed path) own other = tt
-file_own (put.Taken at) own other = tt
-file_own (put.Damaged at fault) own other = tt
-file_own (put.Limit limit) own other = tt
-file_own put.ZeroRandom own other = tt
-file_own put.Source own other = absurd (other refl)
-file_own put.Random own other = tt
-file_own put.Failed own other = tt
-file_own put.NoMemory own other = tt
+pub file_own : (reads : Option Path) (fault : PutFault) → IsFileFault reads fault → fault ≢ put.Source → IsItemFault fault
+file_own reads (put.Find fault) own other = own
+file_own reads (put.NotAllowed path) own other = tt
+file_own reads (put.Taken at) own other = tt
+file_own reads (put.Damaged at fault) own other = tt
+file_own reads (put.Limit limit) own other = tt
+file_own reads put.ZeroRandom own other = tt
+file_own reads put.Source own other = absurd (other refl)
+file_own reads put.Random own other = tt
+file_own reads put.Failed own other = tt
+file_own reads put.NoMemory own other = tt
 
 pub chance_own : (fault : PutFault) → IsPutOfChance fault → IsItemFault fault
 chance_own (put.Find fault) chance = absurd chance
@@ -235,7 +235,7 @@ module _ (vault : OpenedVault) (work : Path) (seed number : ℕ) (path : plain.P
   item_zeros why =
       let view = shown t why.0 in
       run_refused (format_of vault.vault).content drawn
-      (subst (λ r. Answers (placing vault work number item) drawn ending (under vault.root view.0) r) why.1 (made.answer view.0 view.1))
+      (subst (λ r. Answers (placing vault work number item) drawn ending (under vault.root view.0) r) why.1 (made.answer view.0 view.1)).1
 
   -- and what refuses it
   pub item_chance : StandBelow → EnteredLeads → ending ≡ Whole → IfErr result IsItemFault → IfErr result (λ fault. (a : Told) → t ≡ Some a → kind_of vault.vault ≡ kind.Gocryptfs → HoldsAlone vault seed number a.state → IsOfItem fault)

@@ -62,14 +62,18 @@ pub record IsMaking (p : Placing) (ending : Ending) (m : Making) (s0 s : State) 
 abbrev pub making_at : Placing → (View → Making) → State → Making
 making_at p making s0 = making (under p.vault.root (seen s0))
 
--- What opens as a reader now sees it, by the answer: in any vault the item at its path after Ok, and all as before after a refusal of
--- the vault, of the content or of the random source; and in an orderly one all else as before. One in good order stays so. After Ok what
--- was entered is, in any vault.
-abbrev pub EndsAs : Placing → View → View → Result (Unit {0}) PutFault → Type 0
-EndsAs p v w (Ok _) = (opened (format p) w (path_of p) ≡ opens_as p.item) × (IsOrderly (format p) v → OpensWith (format p) v w (path_of p) (opens_as p.item))
+-- What opens once the item is made: in any vault the item at its path, and what was entered is; in an orderly one all else as before.
+-- One in good order stays so.
+abbrev pub OpensItem : Placing → View → View → Type 0
+OpensItem p v w = (opened (format p) w (path_of p) ≡ opens_as p.item) × (IsOrderly (format p) v → OpensWith (format p) v w (path_of p) (opens_as p.item))
     × (IsClean (format p) v → IsOrderly (format p) v → StaysGood (format p) v w) × KeepsEntered (format p) v w
-EndsAs p v w (Err puts.Failed) = IsOrderly (format p) v → OpensAs (format p) v w ⊎ OpensWith (format p) v w (path_of p) (opens_as p.item)
-EndsAs p v w (Err puts.NoMemory) = IsOrderly (format p) v → OpensAs (format p) v w ⊎ OpensWith (format p) v w (path_of p) (opens_as p.item)
+
+-- What opens as a reader now sees it, by the answer, in any vault: the item after Ok; all as before after a refusal of the vault, of the
+-- content or of the random source; and one of the two where the folder failed or memory was refused.
+abbrev pub EndsAs : Placing → View → View → Result (Unit {0}) PutFault → Type 0
+EndsAs p v w (Ok _) = OpensItem p v w
+EndsAs p v w (Err puts.Failed) = OpensAs (format p) v w ⊎ OpensItem p v w
+EndsAs p v w (Err puts.NoMemory) = OpensAs (format p) v w ⊎ OpensItem p v w
 EndsAs p v w (Err (puts.Find fault)) = OpensAs (format p) v w
 EndsAs p v w (Err (puts.NotAllowed path)) = OpensAs (format p) v w
 EndsAs p v w (Err (puts.Taken at)) = OpensAs (format p) v w

@@ -1,5 +1,5 @@
 -- Why a migration's faults may come.
-use Rattle.std.proofs.Common.{◌≡◌, ◌≢◌, ◌≤◌, ℕ, Bool, IfErr, IsTrue, Result, Ok, Err, refl}
+use Rattle.std.proofs.Common.{◌≡◌, ◌≢◌, ◌≤◌, ℕ, Bool, IfErr, IsTrue, Option, Result, Ok, Err, refl}
 use Rattle.folder_model.proofs.Counting.{rose_since}
 use Rattle.folder_model.specs.Answers.{CountsAbove}
 use Rattle.folder_spec.specs.declared.FolderFault.{FolderFault}
@@ -45,17 +45,17 @@ blamed_folder T before mid after folder.Refused le counts = record { own = tt; m
 blamed_folder T before mid after folder.NoMemory le counts = record { own = tt; may = refl; failed = λ is. cc is; drawn = λ is. cc is }
 
 -- a call that makes a file of a content that reads no source
-pub blamed_file : {F R : Type 0} (fault : PutFault) → IsFileFault fault → fault ≢ put.Source → (fault ≡ put.Failed → F) → (fault ≡ put.Random → R) → Blamed is_of_apart F R (of_put fault)
-blamed_file (put.Find why) own none failed drawn = record { own = own; may = refl; failed = λ is. cc is; drawn = λ is. cc is }
-blamed_file (put.NotAllowed path) own none failed drawn = record { own = tt; may = refl; failed = λ is. cc is; drawn = λ is. cc is }
-blamed_file (put.Taken at) own none failed drawn = record { own = tt; may = refl; failed = λ is. cc is; drawn = λ is. cc is }
-blamed_file (put.Damaged at why) own none failed drawn = record { own = tt; may = refl; failed = λ is. cc is; drawn = λ is. cc is }
-blamed_file (put.Limit which) own none failed drawn = record { own = tt; may = refl; failed = λ is. cc is; drawn = λ is. cc is }
-blamed_file put.ZeroRandom own none failed drawn = record { own = tt; may = refl; failed = λ is. cc is; drawn = λ is. cc is }
-blamed_file put.Source own none failed drawn = absurd (none refl)
-blamed_file put.Random own none failed drawn = record { own = tt; may = refl; failed = λ is. cc is; drawn = λ is. drawn refl }
-blamed_file put.Failed own none failed drawn = record { own = tt; may = refl; failed = λ is. failed refl; drawn = λ is. cc is }
-blamed_file put.NoMemory own none failed drawn = record { own = tt; may = refl; failed = λ is. cc is; drawn = λ is. cc is }
+pub blamed_file : {F R : Type 0} (reads : Option Path) (fault : PutFault) → IsFileFault reads fault → fault ≢ put.Source → (fault ≡ put.Failed → F) → (fault ≡ put.Random → R) → Blamed is_of_apart F R (of_put fault)
+blamed_file reads (put.Find why) own none failed drawn = record { own = own; may = refl; failed = λ is. cc is; drawn = λ is. cc is }
+blamed_file reads (put.NotAllowed path) own none failed drawn = record { own = tt; may = refl; failed = λ is. cc is; drawn = λ is. cc is }
+blamed_file reads (put.Taken at) own none failed drawn = record { own = tt; may = refl; failed = λ is. cc is; drawn = λ is. cc is }
+blamed_file reads (put.Damaged at why) own none failed drawn = record { own = tt; may = refl; failed = λ is. cc is; drawn = λ is. cc is }
+blamed_file reads (put.Limit which) own none failed drawn = record { own = tt; may = refl; failed = λ is. cc is; drawn = λ is. cc is }
+blamed_file reads put.ZeroRandom own none failed drawn = record { own = tt; may = refl; failed = λ is. cc is; drawn = λ is. cc is }
+blamed_file reads put.Source own none failed drawn = absurd (none refl)
+blamed_file reads put.Random own none failed drawn = record { own = tt; may = refl; failed = λ is. cc is; drawn = λ is. drawn refl }
+blamed_file reads put.Failed own none failed drawn = record { own = tt; may = refl; failed = λ is. failed refl; drawn = λ is. cc is }
+blamed_file reads put.NoMemory own none failed drawn = record { own = tt; may = refl; failed = λ is. cc is; drawn = λ is. cc is }
 
 -- in a part of one that goes on
 pub blamed_later : {T : Type 0} (f f1 f2 r r1 r2 : ℕ) (result : Result T MoveFault) → f ≤ f1 → r ≤ r1 → IfErr result (Blamed is_of_apart (CountRose f1 f2) (CountRose r1 r2)) → IfErr result (Blamed is_of_resume (CountRose f f2) (CountRose r r2))

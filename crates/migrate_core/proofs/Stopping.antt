@@ -200,29 +200,29 @@ no_other at reading.Whole which other e = cc e
 no_other at reading.Wanting which other e = other at (cc e)
 no_other at (reading.Faulty fault) which other e = cc e
 
-by_ending : (from to : OpenedVault) (item : Planned) (v : View) (why : PutFault) → item.node ≡ File → why ≢ put.Source → AllowsLast (format_of to.vault) item.path → IsFileFault why
+by_ending : (reads : Option Path) (from to : OpenedVault) (item : Planned) (v : View) (why : PutFault) → item.node ≡ File → why ≢ put.Source → AllowsLast (format_of to.vault) item.path → IsFileFault reads why
     → Tells to item.path v (ending_of item.at (content_at (format_of from.vault).content v item.at).ending) why → StopsAt (Enters to item v) from v (item ∷ []) why
-by_ending from to item v (put.Damaged at fault) node read allowed can told =
+by_ending reads from to item v (put.Damaged at fault) node read allowed can told =
     let so = damaged_so item.at at (content_at (format_of from.vault).content v item.at).ending fault told in
     record { item = item; among = (zero, omega arith, refl); file = node; place = so.place; ends = so.ends }
-by_ending from to item v (put.Limit (limit.Length at)) node read allowed can told =
+by_ending reads from to item v (put.Limit (limit.Length at)) node read allowed can told =
     let so = too_long_so item.at at (content_at (format_of from.vault).content v item.at).ending told in
     record { item = item; among = (zero, omega arith, refl); file = node; place = so.place; ends = so.ends }
-by_ending from to item v (put.Limit limit.Items) node read allowed can told = no_other item.at (content_at (format_of from.vault).content v item.at).ending limit.Items (λ path e. cc e) told
-by_ending from to item v (put.Limit limit.Depth) node read allowed can told = no_other item.at (content_at (format_of from.vault).content v item.at).ending limit.Depth (λ path e. cc e) told
-by_ending from to item v (put.Limit limit.Input) node read allowed can told = no_other item.at (content_at (format_of from.vault).content v item.at).ending limit.Input (λ path e. cc e) told
-by_ending from to item v put.Source node read allowed can told = read refl
-by_ending from to item v (put.Find why) node read allowed can told = not_found to item v (ending_of item.at (content_at (format_of from.vault).content v item.at).ending) why can told
-by_ending from to item v (put.NotAllowed path) node read allowed can told = name_forbidden to item v (ending_of item.at (content_at (format_of from.vault).content v item.at).ending) path allowed told
-by_ending from to item v (put.Taken at) node read allowed can told = tt
-by_ending from to item v put.ZeroRandom node read allowed can told = tt
-by_ending from to item v put.Random node read allowed can told = tt
-by_ending from to item v put.Failed node read allowed can told = tt
-by_ending from to item v put.NoMemory node read allowed can told = tt
+by_ending reads from to item v (put.Limit limit.Items) node read allowed can told = no_other item.at (content_at (format_of from.vault).content v item.at).ending limit.Items (λ path e. cc e) told
+by_ending reads from to item v (put.Limit limit.Depth) node read allowed can told = no_other item.at (content_at (format_of from.vault).content v item.at).ending limit.Depth (λ path e. cc e) told
+by_ending reads from to item v (put.Limit limit.Input) node read allowed can told = no_other item.at (content_at (format_of from.vault).content v item.at).ending limit.Input (λ path e. cc e) told
+by_ending reads from to item v put.Source node read allowed can told = read refl
+by_ending reads from to item v (put.Find why) node read allowed can told = not_found to item v (ending_of item.at (content_at (format_of from.vault).content v item.at).ending) why can told
+by_ending reads from to item v (put.NotAllowed path) node read allowed can told = name_forbidden to item v (ending_of item.at (content_at (format_of from.vault).content v item.at).ending) path allowed told
+by_ending reads from to item v (put.Taken at) node read allowed can told = tt
+by_ending reads from to item v put.ZeroRandom node read allowed can told = tt
+by_ending reads from to item v put.Random node read allowed can told = tt
+by_ending reads from to item v put.Failed node read allowed can told = tt
+by_ending reads from to item v put.NoMemory node read allowed can told = tt
 
 -- a file of which the content was told
-pub file_stops : FilesFit → (rule : NameMap) (from to : OpenedVault) (item : Planned) (t : Option Told) (content : List ℕ) (ending : Ending) (why : PutFault) → item.node ≡ File → why ≢ put.Source → AllowsLast (format_of to.vault) item.path → IsFileFault why
+pub file_stops : (reads : Option Path) → FilesFit → (rule : NameMap) (from to : OpenedVault) (item : Planned) (t : Option Told) (content : List ℕ) (ending : Ending) (why : PutFault) → item.node ≡ File → why ≢ put.Source → AllowsLast (format_of to.vault) item.path → IsFileFault reads why
     → IsItemOf rule t from item → ToldContent from item t content ending → IfSeen t (λ v. Tells to item.path v ending why) → IfSeen t (λ v. StopsAt (Enters to item v) from v (item ∷ []) why)
-file_stops fits rule from to item t content ending why node read allowed can of told ends v is =
-    by_ending from to item v why node read allowed can
+file_stops reads fits rule from to item t content ending why node read allowed can of told ends v is =
+    by_ending reads from to item v why node read allowed can
     (subst (λ (x : Ending). Tells to item.path v x why) (ap (λ (c : Coming). c.ending) (content_told fits rule from item t content ending node of told v is)) (ends v is))

@@ -1,6 +1,6 @@
 -- What is written of one item, and what placing it came to.
 use Rattle.folder_spec.proofs.Seen.{seen_of}
-use Rattle.std.proofs.Common.{◌≡◌, inl, inr, ◌≤◌, ℕ, zero, List, [], ◌∷◌, length, Contains, Option, Some, None, IsErrAnd, Result, Ok, Err, refl, sym, ap, ◌∙◌, subst, arith, append-nil}
+use Rattle.std.proofs.Common.{◌≡◌, ◌⊎◌, inl, inr, ◌≤◌, ℕ, zero, List, [], ◌∷◌, length, Contains, Option, Some, None, IsErrAnd, Result, Ok, Err, refl, sym, ap, ◌∙◌, subst, arith, append-nil}
 use Rattle.folder_spec.proofs.Moments.{went_more}
 use Rattle.folder_spec.proofs.Tellings.{from_to_more}
 use Rattle.folder_spec.specs.Event.{Told}
@@ -16,7 +16,7 @@ use Rattle.vault_faults.specs.Limits.{content_limit}
 use Rattle.vault_write.specs.ContentsComing.{coming_read, ending_of, held_before}
 use Rattle.item_making.specs.declared.fault.PutFault.{PutFault}
 use Rattle.item_making.specs.declared.fault.PutFault.TheVariants as put
-use Rattle.vault_write.specs.Refusing.{Answers, HasTaken}
+use Rattle.vault_write.specs.Refusing.{Answers, HasTaken, MayDraw}
 use Rattle.migrate_core.specs.Faults.{of_put}
 use Rattle.migrate_core.specs.declared.fault.MoveFault.{MoveFault}
 use Rattle.plain_tree.specs.Names as plain
@@ -110,17 +110,25 @@ taken_from : (to : OpenedVault) (work : Path) (front : plain.Path) (name : List 
     → HasTaken (record { vault = to; work = work; front = front; name = name; item = item }) drawn u place → HasTaken (placing_in to front name item) drawn u place
 taken_from to work front name item drawn u place h = record { dir = h.dir; there = record { entered = h.there.entered; allowed = h.there.allowed }; is = h.is }
 
+may_from : (to : OpenedVault) (work : Path) (front : plain.Path) (name : List ℕ) (item : NewItem) (u : View) → MayDraw (record { vault = to; work = work; front = front; name = name; item = item }) u → MayDraw (placing_in to front name item) u
+may_from to work front name item u h = record { dir = h.dir; there = record { entered = h.there.entered; allowed = h.there.allowed }; free = h.free }
+
+drew_from : (to : OpenedVault) (work : Path) (front : plain.Path) (name : List ℕ) (item : NewItem) (drawn : List ℕ) (u : View) → (drawn ≡ []) ⊎ MayDraw (record { vault = to; work = work; front = front; name = name; item = item }) u
+    → (drawn ≡ []) ⊎ MayDraw (placing_in to front name item) u
+drew_from to work front name item drawn u (inl none) = inl none
+drew_from to work front name item drawn u (inr may) = inr (may_from to work front name item u may)
+
 answers_from : (to : OpenedVault) (work : Path) (front : plain.Path) (name : List ℕ) (item : NewItem) (drawn : List ℕ) (ending : Ending) (u : View) (result : Result (Unit {0}) PutFault)
     → Answers (record { vault = to; work = work; front = front; name = name; item = item }) drawn ending u result → Answers (placing_in to front name item) drawn ending u result
 answers_from to work front name item drawn ending u (Ok value) h = (taken_from to work front name item drawn u None h.0, h.1, h.2, h.3)
 answers_from to work front name item drawn ending u (Err (put.Find fault)) h = h
 answers_from to work front name item drawn ending u (Err (put.NotAllowed path)) h = (h.0, record { dir = h.1.dir; entered = h.1.entered; forbidden = h.1.forbidden }, h.2)
-answers_from to work front name item drawn ending u (Err (put.Taken at)) h = (h.0, h.1, taken_from to work front name item drawn u (Some h.0) h.2)
+answers_from to work front name item drawn ending u (Err (put.Taken at)) h = (h.0, h.1, taken_from to work front name item drawn u (Some h.0) h.2, drew_from to work front name item drawn u h.3)
 answers_from to work front name item drawn ending u (Err (put.Damaged at fault)) h = (taken_from to work front name item drawn u None h.0, h.1)
 answers_from to work front name item drawn ending u (Err (put.Limit limit)) h = (taken_from to work front name item drawn u None h.0, h.1)
-answers_from to work front name item drawn ending u (Err put.ZeroRandom) h = h
-answers_from to work front name item drawn ending u (Err put.Source) h = tt
-answers_from to work front name item drawn ending u (Err put.Random) h = tt
+answers_from to work front name item drawn ending u (Err put.ZeroRandom) h = (may_from to work front name item u h.0, h.1)
+answers_from to work front name item drawn ending u (Err put.Source) h = may_from to work front name item u h
+answers_from to work front name item drawn ending u (Err put.Random) h = may_from to work front name item u h
 answers_from to work front name item drawn ending u (Err put.Failed) h = tt
 answers_from to work front name item drawn ending u (Err put.NoMemory) h = tt
 

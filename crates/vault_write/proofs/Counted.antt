@@ -6,6 +6,7 @@ use Rattle.item_making.specs.declared.fault.PutFault.{PutFault}
 use Rattle.item_making.specs.declared.fault.PutFault.TheVariants as puts
 use Rattle.folder_spec.specs.declared.FolderFault.TheVariants as folder
 use Rattle.port_model.specs.Counts.{CountRose}
+use Rattle.content_writing.specs.Content.{FitsContent}
 use Rattle.vault_write.specs.Faults.{IsDirectoryFault, IsFileFault, IsPlaceFault}
 use Rattle.chunk_files.specs.Keys.{Keys}
 use Rattle.plain_tree.specs.Names as plain
@@ -62,26 +63,31 @@ place_is_directory_fault fault place = absurd place
 pub is_directory_fault : (fault : PutFault) (result : Result (Unit {0}) PutFault) → IsDirectoryFault fault → result ≡ Err fault → IfErr result IsDirectoryFault
 is_directory_fault fault result directory is = subst (λ r. IfErr r IsDirectoryFault) (sym is) directory
 
-pub place_is_file_fault : (fault : PutFault) → IsPlaceFault fault → IsFileFault fault
-place_is_file_fault (puts.Find fault) place = place
-place_is_file_fault fault place = tt
+pub place_is_file_fault : (reads : Option Path) (fault : PutFault) → IsPlaceFault fault → IsFileFault reads fault
+place_is_file_fault reads (puts.Find fault) place = place
+place_is_file_fault reads (puts.NotAllowed path) place = tt
+place_is_file_fault reads (puts.Taken at) place = tt
+place_is_file_fault reads puts.Failed place = tt
+place_is_file_fault reads puts.NoMemory place = tt
+place_is_file_fault reads fault place = absurd place
 
 pub directory_is_place_fault : (vault : OpenedVault) (path : plain.Path) (told : Option Told) (fault : PutFault) → IsAtDirectory vault path told fault → IsPlaceFault fault
 directory_is_place_fault vault path told fault (inl failed) = subst IsPlaceFault (sym failed) tt
 directory_is_place_fault vault path told fault (inr (inl memory)) = subst IsPlaceFault (sym memory) tt
 directory_is_place_fault vault path told fault (inr (inr found)) = subst IsPlaceFault (sym found.0) tt
 
-pub directory_is_file_fault : (vault : OpenedVault) (path : plain.Path) (told : Option Told) (fault : PutFault) → IsAtDirectory vault path told fault → IsFileFault fault
-directory_is_file_fault vault path told fault is = place_is_file_fault fault (directory_is_place_fault vault path told fault is)
+pub directory_is_file_fault : (reads : Option Path) (vault : OpenedVault) (path : plain.Path) (told : Option Told) (fault : PutFault) → IsAtDirectory vault path told fault → IsFileFault reads fault
+directory_is_file_fault reads vault path told fault is = place_is_file_fault reads fault (directory_is_place_fault vault path told fault is)
 
 -- writing a content looks for no path
-pub stop_is_file_fault : (keys : Keys) (w : Writing) (fault : PutFault) → StopsBy keys w fault → IsFileFault fault
-stop_is_file_fault keys w (puts.Find fault) stops = absurd stops
-stop_is_file_fault keys w fault stops = tt
+pub stop_is_file_fault : (reads : Option Path) (keys : Keys) (w : Writing) (fault : PutFault) → StopsBy keys w fault → FitsContent reads fault → IsFileFault reads fault
+stop_is_file_fault reads keys w (puts.Find fault) stops fits = absurd stops
+stop_is_file_fault reads keys w fault stops fits = fits
 
-pub placing_is_file_fault : (keys : Keys) (w : Writing) (Does : Result (Unit {0}) FolderFault → Type 0) (Only : Type 0) (result : Result (Unit {0}) PutFault) → PlacesBy keys w Does Only result → IfErr result IsFileFault
-placing_is_file_fault keys w Does Only (Ok value) ends = tt
-placing_is_file_fault keys w Does Only (Err fault) ends = stop_is_file_fault keys w fault ends.0
+pub placing_is_file_fault : (reads : Option Path) (keys : Keys) (w : Writing) (Does : Result (Unit {0}) FolderFault → Type 0) (Only : Type 0) (result : Result (Unit {0}) PutFault) → PlacesBy keys w Does Only result
+    → IfErr result (λ fault. FitsContent reads fault) → IfErr result (λ fault. IsFileFault reads fault)
+placing_is_file_fault reads keys w Does Only (Ok value) ends fits = tt
+placing_is_file_fault reads keys w Does Only (Err fault) ends fits = stop_is_file_fault reads keys w fault ends.0 fits
 
-pub is_file_fault : (fault : PutFault) (result : Result (Unit {0}) PutFault) → IsFileFault fault → result ≡ Err fault → IfErr result IsFileFault
-is_file_fault fault result file is = subst (λ r. IfErr r IsFileFault) (sym is) file
+pub is_file_fault : (reads : Option Path) (fault : PutFault) (result : Result (Unit {0}) PutFault) → IsFileFault reads fault → result ≡ Err fault → IfErr result (λ fault. IsFileFault reads fault)
+is_file_fault reads fault result file is = subst (λ r. IfErr r (λ fault. IsFileFault reads fault)) (sym is) file

@@ -77,8 +77,8 @@ name_among None key text is = cc
 
 -- where something in it failed
 pub directory_failed : (work : Path) (x : Part) (staged : Path) (edits : List Edit) (files : List (List ℕ)) (t u : Option Told) (result : Result (Unit {0}) FolderFault) → staged ≡ child (stage_path work) x → IsErr result
-    → StagesFolder files staged t u → AddsEdits work edits files t u result
-directory_failed work x staged edits files t u (Err fault) is err stages = adds_staging work x edits files t u fault (subst (λ p. StagesFolder files p t u) is stages)
+    → StagesFolder files staged t u → AddsEdits None work edits files t u result
+directory_failed work x staged edits files t u (Err fault) is err stages = adds_staging None work x edits files t u fault (subst (λ p. StagesFolder files p t u) is stages)
 directory_failed work x staged edits files t u (Ok value) is err stages = let clash : false ≡ true = err in cc
 
 -- the text of a long name has its place in it
@@ -100,9 +100,9 @@ whole_staged files staged made t u sound whole =
 
 pub directory_renamed : (work : Path) (x : Part) (staged at : Path) (entries : List (Part × List ℕ)) (files : List (List ℕ)) (t u w : Option Told) (result : Result (Unit {0}) FolderFault) → staged ≡ child (stage_path work) x
     → ((a : Told) → u ≡ Some a → IsSound a.state) → IfSeen t (λ v. MayBePut v work at) → IsStagedFolder files staged entries t u → Changes (Rename staged at) u w result
-    → AddsEdits work (folder_edit at entries ∷ []) files t w result
+    → AddsEdits None work (folder_edit at entries ∷ []) files t w result
 directory_renamed work x staged at entries files t u w result is sound may whole changes =
-    adds_renamed work x (folder_edit at entries) files t u w result
+    adds_renamed None work x (folder_edit at entries) files t u w result tt
     (subst (λ p. FromTo (IsStagedWhole files p (folder_view entries)) t u) is (whole_staged files staged (folder_view entries) t u sound whole))
     (λ v seen_so. (may v seen_so).free) (subst (λ p. Changes (Rename p at) u w result) is changes)
 
@@ -111,7 +111,7 @@ pub directory_may : (work : Path) (x : Part) (staged at : Path) (entries : List 
     → (b : Told) → u ≡ Some b → Allowed b.state (Rename staged at)
 directory_may work x staged at entries files t u is sound sound_now may whole b there =
     subst (λ p. Allowed b.state (Rename p at)) (sym is)
-    (renames_allowed work at x files (folder_view entries) t u sound may (λ none. cc)
+    (renames_allowed work at x files (folder_view entries) t u sound (λ v seen_so. ((may v seen_so).free, (may v seen_so).apart)) (λ none. cc)
     (subst (λ p. FromTo (IsStagedWhole files p (folder_view entries)) t u) is (whole_staged files staged (folder_view entries) t u sound_now whole)) b there)
 
 pub directory_free : (work : Path) (x : Part) (staged at : Path) (t : Option Told) → staged ≡ child (stage_path work) x → IfSeen t (λ v. MayBePut v work at) → IfSeen t (λ v. ShowsFree v staged)
@@ -132,7 +132,7 @@ name_gains are gain staged at full text bytes t u result is_full same is sound s
     (subst (λ b. StagesFolder contents staged before u × OnOk result (IsStagedFolder contents staged ((full_file, b) ∷ files) before u)) same
     (gains are gain staged at full_file bytes contents files before t u result is sound sound_then (subst (Contains contents) (sym same) (among text is_full)) whole stages new))
 
-pub side_adds : (work at : Path) (wants : Bool) (full : Option (List ℕ)) (text bytes : List ℕ) (t u : Option Told) (result : Result (Unit {0}) FolderFault) → wants ≡ true → full ≡ Some text → bytes ≡ text
-    → AddsEdits work (file_edit at bytes ∷ []) (bytes ∷ []) t u result → AddsEdits work (side_edits wants at full) (full_texts full) t u result
-side_adds work at wants full text bytes t u result is_wanted is_full same adds =
-    subst (λ y. AddsEdits work (side_edits y at full) (full_texts full) t u result) (sym is_wanted) (subst (λ o. AddsEdits work (side_edits true at o) (full_texts o) t u result) (sym is_full) (subst (λ b. AddsEdits work (file_edit at b ∷ []) (b ∷ []) t u result) same adds))
+pub side_adds : (held : Option View) (work at : Path) (wants : Bool) (full : Option (List ℕ)) (text bytes : List ℕ) (t u : Option Told) (result : Result (Unit {0}) FolderFault) → wants ≡ true → full ≡ Some text → bytes ≡ text
+    → AddsEdits held work (file_edit at bytes ∷ []) (bytes ∷ []) t u result → AddsEdits held work (side_edits wants at full) (full_texts full) t u result
+side_adds held work at wants full text bytes t u result is_wanted is_full same adds =
+    subst (λ y. AddsEdits held work (side_edits y at full) (full_texts full) t u result) (sym is_wanted) (subst (λ o. AddsEdits held work (side_edits true at o) (full_texts o) t u result) (sym is_full) (subst (λ b. AddsEdits held work (file_edit at b ∷ []) (b ∷ []) t u result) same adds))

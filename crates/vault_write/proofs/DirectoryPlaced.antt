@@ -41,13 +41,13 @@ use Rattle.vault_write.specs.Editing.{Edits, HasFinished, HasBegun, GoPlaces, Cm
 use Rattle.vault_write.specs.Founding.{SomeDrew, DrawsSome}
 use Rattle.item_making.specs.Making.{Placing, Making, format}
 use Rattle.item_making.specs.Placing.{MayMake}
-use Rattle.vault_write.specs.Refusing.{Answers}
+use Rattle.vault_write.specs.Refusing.{Answers, MayDraw}
 use Rattle.vault_write.specs.Showing.{EditsShowTrees, SettledEditsShowTrees}
 use Rattle.vault_write.specs.Slots.{IsSlot, IsTakenAt, IsShelfTaken, IsHomeTaken, DrewAtMost, PlacesOne, wants_text, placing}
 use Rattle.vault_write.proofs.Begun.{FoldersStand, has_begun}
 use Rattle.vault_write.proofs.CmBegun.{cm_begun, cm_places, shelf_above}
 use Rattle.vault_write.proofs.Exits.{at_fault}
-use Rattle.vault_write.proofs.Found.{Enters, or_taken, taken_there}
+use Rattle.vault_write.proofs.Found.{Enters, cm_draws, or_taken, taken_there}
 use Rattle.vault_write.proofs.GoBegun.{go_begun, go_places}
 use Rattle.vault_write.proofs.NewVaults.{is_key}
 use Rattle.vault_write.proofs.Seeing.{if_seen}
@@ -131,9 +131,9 @@ key_has_bits keys key size some (suc number) has = let long : 16 * suc (suc numb
 
 -- no key was drawn
 pub go_undrawn : (vault : OpenedVault) → kind_of vault.vault ≡ kind.Gocryptfs → (work : Path) (front : plain.Path) (name : List ℕ) (s s' : Stream) (t u : Option Told) (fault : PutFault) (result : Result (Unit {0}) PutFault)
-    → DrawsSome s s' (Err fault) → u ≡ t → IsErrAnd result (λ e. e ≡ fault) → PlacesOne (placing vault work front name NewDirectory) s s' t u result
-go_undrawn vault is work front name s s' t u fault result h same by_fault =
-    refused_one (placing vault work front name NewDirectory) h.drawn s s' t u fault result h.were_drawn (few fault h.drew) (λ is_zero. drew_zeros fault is_zero h.drew) (drew_none fault h.drew) same (λ v seen_so. answer fault (under vault.root v) h.drew) by_fault
+    → DrawsSome s s' (Err fault) → IfSeen t (λ v. MayDraw (placing vault work front name NewDirectory) (under vault.root v)) → u ≡ t → IsErrAnd result (λ e. e ≡ fault) → PlacesOne (placing vault work front name NewDirectory) s s' t u result
+go_undrawn vault is work front name s s' t u fault result h may same by_fault =
+    refused_one (placing vault work front name NewDirectory) h.drawn s s' t u fault result h.were_drawn (few fault h.drew) (λ is_zero. drew_zeros fault is_zero h.drew) (drew_none fault h.drew) same (λ v seen_so. answer fault (under vault.root v) (may v seen_so) h.drew) by_fault
   where
     few : (fault : PutFault) → SomeDrew h.bytes h.drawn (Err fault) → length h.drawn ≤ 16
     few puts.ZeroRandom k = let size : length h.drawn ≡ 16 = ap length k.0 ∙ h.sizes.size in omega (arith, size)
@@ -150,10 +150,10 @@ go_undrawn vault is work front name s s' t u fault result h same by_fault =
     drew_none puts.Random k other = subst (DrewNoZeros (format_of vault.vault).content) (sym k) (no_zeros_in_none (format_of vault.vault).content)
     drew_none fault k other = absurd k
 
-    answer : (fault : PutFault) (v : View) → SomeDrew h.bytes h.drawn (Err fault) → Answers (placing vault work front name NewDirectory) h.drawn Whole v (Err fault)
-    answer puts.ZeroRandom v k = drew_zeros puts.ZeroRandom refl k
-    answer puts.Random v k = tt
-    answer fault v k = absurd k
+    answer : (fault : PutFault) (v : View) → MayDraw (placing vault work front name NewDirectory) v → SomeDrew h.bytes h.drawn (Err fault) → Answers (placing vault work front name NewDirectory) h.drawn Whole v (Err fault)
+    answer puts.ZeroRandom v may_so k = (may_so, drew_zeros puts.ZeroRandom refl k)
+    answer puts.Random v may_so k = may_so
+    answer fault v may_so k = absurd k
 
 -- ---- Cryptomator
 
@@ -214,9 +214,10 @@ is_id id size characters = rw (characters_small id characters, size) refl
 
 -- no id was drawn
 pub undrawn_one : (vault : OpenedVault) (work : Path) (front : plain.Path) (name : List ℕ) (s s' : Stream) (t u : Option Told) (fault : PutFault) (result : Result (Unit {0}) PutFault)
-    → DrewAtMost 16 s s' → ((drawn : List ℕ) → DrewNoZeros (format_of vault.vault).content drawn) → (fault ≡ puts.Random) ⊎ (fault ≡ puts.NoMemory) → u ≡ t → IsErrAnd result (λ e. e ≡ fault) → PlacesOne (placing vault work front name NewDirectory) s s' t u result
-undrawn_one vault work front name s s' t u fault result h none kinds same by_fault =
-    refused_one (placing vault work front name NewDirectory) h.drawn s s' t u fault result h.were_drawn h.few undrawn (λ other. none h.drawn) same (λ v seen_so. answer (under vault.root v)) by_fault
+    → DrewAtMost 16 s s' → ((drawn : List ℕ) → DrewNoZeros (format_of vault.vault).content drawn) → (fault ≡ puts.Random) ⊎ (fault ≡ puts.NoMemory)
+    → IfSeen t (λ v. MayDraw (placing vault work front name NewDirectory) (under vault.root v)) → u ≡ t → IsErrAnd result (λ e. e ≡ fault) → PlacesOne (placing vault work front name NewDirectory) s s' t u result
+undrawn_one vault work front name s s' t u fault result h none kinds may same by_fault =
+    refused_one (placing vault work front name NewDirectory) h.drawn s s' t u fault result h.were_drawn h.few undrawn (λ other. none h.drawn) same (λ v seen_so. answer (under vault.root v) (may v seen_so)) by_fault
   where
     undrawn : fault ≡ puts.ZeroRandom → DrewZeros (format_of vault.vault).content h.drawn
     undrawn zeros = elim kinds [
@@ -224,9 +225,9 @@ undrawn_one vault work front name s s' t u fault result h none kinds same by_fau
       | inr memory ↦ cc
     ]
 
-    answer : (v : View) → Answers (placing vault work front name NewDirectory) h.drawn Whole v (Err fault)
-    answer v = elim kinds [
-      | inl random ↦ subst (λ x. Answers (placing vault work front name NewDirectory) h.drawn Whole v (Err x)) (sym random) tt
+    answer : (v : View) → MayDraw (placing vault work front name NewDirectory) v → Answers (placing vault work front name NewDirectory) h.drawn Whole v (Err fault)
+    answer v may_so = elim kinds [
+      | inl random ↦ subst (λ x. Answers (placing vault work front name NewDirectory) h.drawn Whole v (Err x)) (sym random) may_so
       | inr memory ↦ subst (λ x. Answers (placing vault work front name NewDirectory) h.drawn Whole v (Err x)) (sym memory) tt
     ]
 
@@ -259,6 +260,7 @@ module _ (cm : CmVault) (root work : Path) (front : plain.Path) (name id drawn :
       is = subst (λ x. (cm_format cm).taken_for_directory (under root v) (slot v s).dir ((cm_format cm).stored (slot v s).dir.key name) x ≡ Some place) id_is
           (ap (λ x. option_or (taken_at (entry_at (cm_format cm) (slot v s).dir name) x) (taken_folders (under root v) (cm_folder_of cm.keys id))) (slot v s).free ∙ e);
     },
+    inr (cm_draws root (Cryptomator cm) refl work front name NewDirectory t at side full slot v s),
   )
 
   home_taken : (fault : PutFault) → IsTakenAt home t fault → IfSeen t (λ v. Answers p drawn Whole (under root v) (Err fault))

@@ -1,23 +1,23 @@
 -- The edits of an item are published one after the other: what is staged, a rename, a directory that is made, and the settle.
 use Rattle.std.specs.Prelude.{Contains}
-use Rattle.std.proofs.Common.{arith, zero, suc, length, length-append, ◌+◌, cond, ◌≤◌, ◌≡◌, ◌≢◌, ℕ, false, List, [], ◌∷◌, ◌++◌, None, Result, Ok, refl, sym, ap, ◌∙◌, inl, inr, subst, append_assoc, append-nil, IsTrue}
+use Rattle.std.proofs.Common.{arith, zero, suc, length, length-append, ◌+◌, cond, ◌≤◌, ◌≡◌, ◌≢◌, ℕ, false, List, [], ◌∷◌, ◌++◌, Option, Some, None, Result, Ok, refl, sym, ap, ◌∙◌, inl, inr, subst, append_assoc, append-nil, IsTrue, is_some, codes}
 use Rattle.std.proofs.lemmas.List.Elements.{Contains-append_right}
 use Rattle.folder_spec.specs.declared.FolderFault.{FolderFault}
 use Rattle.folder_spec.specs.Path.{Part, Path, below, child, parent}
-use Rattle.folder_spec.specs.declared.Spot.TheVariants.{Nothing, Directory}
-use Rattle.folder_spec.specs.State.{State, present, IsSound}
+use Rattle.folder_spec.specs.declared.Spot.TheVariants.{Nothing, Directory, FileNode}
+use Rattle.folder_spec.specs.State.{State, present, IsClean, IsSound}
 use Rattle.folder_spec.specs.Edit.{Edit, edited, directory_edit, view_after, IsStagedView, PublishesIn, HasPublishedIn, HasSettledIn}
 use Rattle.folder_spec.specs.Event.{MakeDir, Settle, Rename, IsFree, Allowed, Outcome, Done, changed, Told, told_after, Steps}
 use Rattle.folder_spec.specs.Moments.{Went}
-use Rattle.folder_spec.specs.Region.{StagesAt, apart_from, at_or_below}
+use Rattle.folder_spec.specs.Region.{IsAsBefore, StagesAt, apart_from, at_or_below}
 use Rattle.folder_spec.specs.Seen.{seen, put_found, moved_view, moved_found, ShowsFree}
 use Rattle.folder_spec.specs.View.{NoEntry, Folder, View, found}
 use Rattle.folder_spec.proofs.Tables.{present_is_table}
-use Rattle.folder_spec.proofs.Paths.{begins_or_not, below-append, below-parent, not_below, one_or_not, path_eq-same}
+use Rattle.folder_spec.proofs.Paths.{begins_or_not, below-append, below-apart, below-parent, below-sibling, not_below, one_or_not, path_eq-same}
 use Rattle.folder_spec.proofs.Moments.{went_on, went_nowhere, went_by_call, went_to}
 use Rattle.folder_spec.proofs.Regions.{as_before, as_before_on, as_before_then, as_before_within, seen_as_before}
 use Rattle.folder_spec.proofs.Replaces.{apart-from_below}
-use Rattle.folder_spec.proofs.Edits.{publishes_nothing, publishes_more, publishes_joined, published_joined, published, directory_published, nothing_below_file, settle_publishes, settled, at_edit, off_edit}
+use Rattle.folder_spec.proofs.Edits.{shows_as_before, publishes_nothing, publishes_more, publishes_joined, published_joined, published, directory_published, nothing_below_file, settle_publishes, settled, at_edit, off_edit}
 use Rattle.folder_spec.proofs.Seen.{free_seen, seen_changed}
 use Rattle.folder_spec.proofs.Sound.{changed_sound}
 use Rattle.folder_spec.proofs.Written.{fronts_of_none, fronts_then}
@@ -26,7 +26,7 @@ use Rattle.work_folder.specs.Entries.{stage_path}
 use Rattle.folder_staging.specs.Removal.{IsBare}
 use Rattle.work_folder.specs.Entering.{IsReady, below_stage}
 use Rattle.item_making.specs.Making.{Making, is_unstaged, is_apart, HasPlace, StagesOrPlaces}
-use Rattle.vault_write.specs.Editing.{IsEditing, Edits, HasEdited, HasFinished}
+use Rattle.vault_write.specs.Editing.{IsEditing, IsReadyBut, Edits, HasEdited, HasFinished, Holds, entry_stage}
 use Rattle.vault_write.proofs.Stages.{in_stage, unstaged_below, unstaged_apart, apart_unstaged, apart_root, at_root, root_unstaged, off_root, stage_beside, staged_beside, work_unstaged, stage_unstaged}
 use Rattle.vault_write.proofs.Runs.{went_with, works_in_stage}
 
@@ -56,13 +56,38 @@ pub bare_of : (v : View) (work : Path) → ((y : Part) (rest : Path) → v (stag
 bare_of v work none [] more = absurd (omega (arith, more))
 bare_of v work none (y ∷ rest) more = none y rest
 
+-- a place that isn't where an entry is staged, if one is
+abbrev pub Beside : Path → Option View → Part → Type 0
+Beside work None x = Unit {0}
+Beside work (Some made) x = (below (child (stage_path work) x) (entry_stage work) ≡ None) × (below (entry_stage work) (child (stage_path work) x) ≡ None)
+
+-- that of a long name's text isn't
+pub name_beside : (work : Path) (held : Option View) → Beside work held (codes "n")
+name_beside work None = tt
+name_beside work (Some made) = (below-sibling (stage_path work) (codes "n") (codes "f") refl, below-sibling (stage_path work) (codes "f") (codes "n") refl)
+
+ready_but : (place : Path) (v : View) (work : Path) → IsReady v work → IsReadyBut place v work
+ready_but place v work ready = record { folder = ready.folder; stage = ready.stage; bare = λ y rest none. ready.bare (y ∷ rest) (some_part y rest) }
+
+-- what is staged at a place stays while all there is as it was
+staged_stays : (at : Path) (made : View) (s0 s : State) → IsSound s0 → IsAsBefore (at_or_below at) s0 s → IsStagedView s0 (present s0) at made → IsStagedView s (present s) at made
+staged_stays at made s0 s sound was staged = record {
+  shown = λ rest. seen_as_before (at_or_below at) s0 s sound was (at ++ rest) (there rest) ∙ staged.shown rest;
+  clean = λ rest n is.
+      let before : present s0 (at ++ rest) ≡ FileNode n = sym (was.seen (at ++ rest) (there rest)) ∙ is in
+      subst IsClean (sym (was.nodes n ((sound.tables (present s0) (present_is_table s0)).is_made (at ++ rest) n before))) (staged.clean rest n before);
+}
+  where
+    there : (rest : Path) → IsTrue (at_or_below at (at ++ rest))
+    there rest = ap is_some (below-append at rest)
+
 module _ (work root : Path) (m : Making) where
-  so_far : (done more : List Edit) (a b : Told) → HasEdited work root m done more a b → IsEditing work root m a.state b.state
+  so_far : {held : Option View} (done more : List Edit) (a b : Told) → HasEdited held work root m done more a b → IsEditing work root m a.state b.state
   so_far done more a b h = went_to (IsEditing work root m a.state) (λ s e. StagesOrPlaces work m s e.call) a b h.went
 
   -- none is done yet
   pub begun : (a : Told) → IsSound a.state → IsReady (seen a.state) work → below work root ≡ None → below root work ≡ None
-      → ((e : Edit) → Contains m.edits e → IsTrue (at_or_below root e.at)) → m.replaces ≡ false → HasEdited work root m [] m.edits a a
+      → ((e : Edit) → Contains m.edits e → IsTrue (at_or_below root e.at)) → m.replaces ≡ false → HasEdited None work root m [] m.edits a a
   begun a sound ready apart beside inside new = record {
     is = refl;
     went = went_nowhere (IsEditing work root m a.state) (λ s e. StagesOrPlaces work m s e.call) a (record {
@@ -86,7 +111,7 @@ module _ (work root : Path) (m : Making) where
   }
 
   -- while something is staged
-  module _ (done more : List Edit) (a b : Told) (h : HasEdited work root m done more a b) (x : Part) where
+  module _ {held : Option View} (done more : List Edit) (a b : Told) (h : HasEdited held work root m done more a b) (x : Part) where
     staging_is : (s : State) → IsStagingFolder m.files (child (stage_path work) x) b.state s → IsEditing work root m a.state s
     staging_is s k = record {
       publishes = subst (λ edits. PublishesIn (is_unstaged work) edits a.state s) (sym h.is)
@@ -113,7 +138,7 @@ module _ (work root : Path) (m : Making) where
   edit_among done more e is = subst (λ edits. Contains edits e) (sym is) (Contains-append_right done (e ∷ more) e (first_of e more))
 
   -- what was staged is put in its place
-  module _ (done more : List Edit) (e : Edit) (a b c d : Told) (x : Part) (h : HasEdited work root m done (e ∷ more) a b)
+  module _ {held : Option View} (done more : List Edit) (e : Edit) (a b c d : Told) (x : Part) (h : HasEdited held work root m done (e ∷ more) a b)
       (staging : StagingAt m.files (child (stage_path work) x) b c) (staged : IsStagedView c.state (present c.state) (child (stage_path work) x) e.made)
       (sound : IsSound c.state) (free : ShowsFree (seen b.state) e.at) where
     in_root : IsTrue (at_or_below root e.at)
@@ -176,15 +201,60 @@ module _ (work root : Path) (m : Making) where
     kept_then : Allowed c.state (Rename (child (stage_path work) x) e.at) → (q : Path) → IsTrue (is_unstaged work q) → below e.at q ≡ None → seen (changed c.state (Rename (child (stage_path work) x) e.at)) q ≡ seen b.state q
     kept_then allowed q unstaged off = ap (λ v. v q) (seen_then allowed) ∙ moved_off q off (unstaged_below work x q unstaged) ∙ still q (unstaged_apart work x q unstaged)
 
-    bare_then : Allowed c.state (Rename (child (stage_path work) x) e.at) → (y : Part) (rest : Path) → seen (changed c.state (Rename (child (stage_path work) x) e.at)) (stage_path work ++ y ∷ rest) ≡ NoEntry
-    bare_then allowed y rest = ap (λ v. v (stage_path work ++ y ∷ rest)) (seen_then allowed)
+    bare_then : Allowed c.state (Rename (child (stage_path work) x) e.at) → (y : Part) (rest : Path) → (below (child (stage_path work) x) (stage_path work ++ y ∷ rest) ≡ None → seen b.state (stage_path work ++ y ∷ rest) ≡ NoEntry)
+        → seen (changed c.state (Rename (child (stage_path work) x) e.at)) (stage_path work ++ y ∷ rest) ≡ NoEntry
+    bare_then allowed y rest was = ap (λ v. v (stage_path work ++ y ∷ rest)) (seen_then allowed)
         ∙ ap (λ o. moved_found (seen c.state) (child (stage_path work) x) (stage_path work ++ y ∷ rest) o (below (child (stage_path work) x) (stage_path work ++ y ∷ rest)))
         (staged_beside work root e.at (y ∷ rest) h.apart h.beside in_root)
         ∙ elim (begins_or_not (child (stage_path work) x) (stage_path work ++ y ∷ rest)) [
           | inl k ↦ ap (moved_found (seen c.state) (child (stage_path work) x) (stage_path work ++ y ∷ rest) None) (ap (below (child (stage_path work) x)) k.1 ∙ below-append (child (stage_path work) x) k.0)
           | inr none ↦ ap (moved_found (seen c.state) (child (stage_path work) x) (stage_path work ++ y ∷ rest) None) none
-              ∙ still (stage_path work ++ y ∷ rest) (apart-from_below (child (stage_path work) x) (stage_path work ++ y ∷ rest) none) ∙ h.ready.bare (y ∷ rest) (some_part y rest)
+              ∙ still (stage_path work ++ y ∷ rest) (apart-from_below (child (stage_path work) x) (stage_path work ++ y ∷ rest) none) ∙ was none
         ]
+
+    folder_then : Allowed c.state (Rename (child (stage_path work) x) e.at) → seen (changed c.state (Rename (child (stage_path work) x) e.at)) work ≡ seen b.state work
+    folder_then allowed = kept_then allowed work (work_unstaged work) (off_root root e.at work h.beside in_root)
+
+    stage_then : Allowed c.state (Rename (child (stage_path work) x) e.at) → seen (changed c.state (Rename (child (stage_path work) x) e.at)) (stage_path work) ≡ seen b.state (stage_path work)
+    stage_then allowed = kept_then allowed (stage_path work) (stage_unstaged work) (stage_beside work root e.at h.apart h.beside in_root)
+
+    -- where nothing but this was in the stage, nothing is
+    pub ready_then : IsReadyBut (child (stage_path work) x) (seen b.state) work → Allowed c.state (Rename (child (stage_path work) x) e.at)
+        → IsReady (seen (changed c.state (Rename (child (stage_path work) x) e.at))) work
+    ready_then but allowed = record {
+      folder = folder_then allowed ∙ but.folder;
+      stage = stage_then allowed ∙ but.stage;
+      bare = bare_of (seen (changed c.state (Rename (child (stage_path work) x) e.at))) work (λ y rest. bare_then allowed y rest (but.bare y rest));
+    }
+
+    -- an entry stays there
+    entry_spared : below (child (stage_path work) x) (entry_stage work) ≡ None → below (entry_stage work) (child (stage_path work) x) ≡ None
+        → IsAsBefore (at_or_below (entry_stage work)) b.state (changed c.state (Rename (child (stage_path work) x) e.at))
+    entry_spared apart beside =
+        as_before_on (at_or_below (entry_stage work)) b.state c.state (Rename (child (stage_path work) x) e.at) (λ q is. (off_entry q is, off_stage q is)) tt
+        (as_before_within (at_or_below (entry_stage work)) (apart_from (child (stage_path work) x)) b.state c.state (λ q is. apart-from_below (child (stage_path work) x) q (off_stage q is)) since.others)
+      where
+        off_stage : (q : Path) → IsTrue (at_or_below (entry_stage work) q) → below (child (stage_path work) x) q ≡ None
+        off_stage q is =
+            let place : (rest : Path) × (q ≡ entry_stage work ++ rest) = at_root (entry_stage work) q is in
+            ap (below (child (stage_path work) x)) place.1 ∙ below-apart (child (stage_path work) x) (entry_stage work) place.0 apart beside
+
+        off_entry : (q : Path) → IsTrue (at_or_below (entry_stage work) q) → below e.at q ≡ None
+        off_entry q is =
+            let place : (rest : Path) × (q ≡ entry_stage work ++ rest) = at_root (entry_stage work) q is in
+            ap (below e.at) (place.1 ∙ append_assoc (stage_path work) (codes "f" ∷ []) place.0) ∙ staged_beside work root e.at (codes "f" ∷ place.0) h.apart h.beside in_root
+
+    pub holds_then : (now : Option View) → Beside work now x → Holds now b.state work → Allowed c.state (Rename (child (stage_path work) x) e.at)
+        → Holds now (changed c.state (Rename (child (stage_path work) x) e.at)) work
+    holds_then None beside ready allowed = ready_then (ready_but (child (stage_path work) x) (seen b.state) work ready) allowed
+    holds_then (Some made) beside holds allowed = record {
+      entry = staged_stays (entry_stage work) made b.state (changed c.state (Rename (child (stage_path work) x) e.at)) h.sound_now (entry_spared beside.0 beside.1) holds.entry;
+      others = record {
+        folder = folder_then allowed ∙ holds.others.folder;
+        stage = stage_then allowed ∙ holds.others.stage;
+        bare = λ y rest none. bare_then allowed y rest (λ off. holds.others.bare y rest none);
+      };
+    }
 
     renamed_is : Allowed c.state (Rename (child (stage_path work) x) e.at) → IsEditing work root m a.state (changed c.state (Rename (child (stage_path work) x) e.at))
     renamed_is allowed = record {
@@ -210,19 +280,15 @@ module _ (work root : Path) (m : Making) where
         (went_by_call (IsEditing work root m a.state) (λ s k. StagesOrPlaces work m s k.call) (Rename (child (stage_path work) x) e.at) c d result here
         renamed_is (λ added allowed. here) renaming steps)
 
-    renamed_then : Allowed c.state (Rename (child (stage_path work) x) e.at) → (d : Told) → d ≡ told_after c (Rename (child (stage_path work) x) e.at) Done → Edits work root m a d
-        → HasEdited work root m (done ++ e ∷ []) more a d
-    renamed_then allowed d is went = record {
+    renamed_then : (now : Option View) → Holds now (changed c.state (Rename (child (stage_path work) x) e.at)) work → Allowed c.state (Rename (child (stage_path work) x) e.at) → (d : Told)
+        → d ≡ told_after c (Rename (child (stage_path work) x) e.at) Done → Edits work root m a d → HasEdited now work root m (done ++ e ∷ []) more a d
+    renamed_then now holds allowed d is went = record {
       is = h.is ∙ sym (append_assoc done (e ∷ []) more);
       went = went;
       published = subst (λ (t : Told). HasPublishedIn (is_unstaged work) (done ++ e ∷ []) a.state t.state) (sym is)
           (published_joined (is_unstaged work) done (e ∷ []) a.state b.state (changed c.state (Rename (child (stage_path work) x) e.at)) h.published renamed_one);
       views = λ q unstaged. ap (λ (t : Told). seen t.state q) is ∙ views_then allowed q unstaged;
-      ready = subst (λ (t : Told). IsReady (seen t.state) work) (sym is) (record {
-        folder = kept_then allowed work (work_unstaged work) (off_root root e.at work h.beside in_root) ∙ h.ready.folder;
-        stage = kept_then allowed (stage_path work) (stage_unstaged work) (stage_beside work root e.at h.apart h.beside in_root) ∙ h.ready.stage;
-        bare = bare_of (seen (changed c.state (Rename (child (stage_path work) x) e.at))) work (bare_then allowed);
-      });
+      ready = subst (λ (t : Told). Holds now t.state work) (sym is) holds;
       sound = h.sound;
       sound_now = subst (λ (t : Told). IsSound t.state) (sym is) (changed_sound c.state (Rename (child (stage_path work) x) e.at) sound allowed);
       apart = h.apart;
@@ -231,11 +297,65 @@ module _ (work root : Path) (m : Making) where
       new = h.new;
     }
 
-    pub renamed_done : Steps (Rename (child (stage_path work) x) e.at) c d (Ok tt) → HasEdited work root m (done ++ e ∷ []) more a d
-    renamed_done steps = renamed_then steps.0 d steps.1 (renamed_edits (Ok tt) steps)
+    pub renamed_so : (now : Option View) → (Allowed c.state (Rename (child (stage_path work) x) e.at) → Holds now (changed c.state (Rename (child (stage_path work) x) e.at)) work)
+        → Steps (Rename (child (stage_path work) x) e.at) c d (Ok tt) → HasEdited now work root m (done ++ e ∷ []) more a d
+    renamed_so now holds steps = renamed_then now (holds steps.0) steps.0 d steps.1 (renamed_edits (Ok tt) steps)
+
+    pub renamed_done : Beside work held x → Steps (Rename (child (stage_path work) x) e.at) c d (Ok tt) → HasEdited held work root m (done ++ e ∷ []) more a d
+    renamed_done beside steps = renamed_so held (holds_then held beside h.ready) steps
+
+  -- an entry comes to the stage
+  pub entry_held : (done more : List Edit) (made : View) (a b c : Told) → HasEdited None work root m done more a b → StagingAt m.files (entry_stage work) b c
+      → IsStagedView c.state (present c.state) (entry_stage work) made → IsSound c.state → HasEdited (Some made) work root m done more a c
+  entry_held done more made a b c h staging staged sound = record {
+    is = h.is;
+    went = staging_edits done more a b h (codes "f") c staging;
+    published = record {
+      publishes = subst (λ edits. PublishesIn (is_unstaged work) edits a.state c.state) (append-nil done)
+          (publishes_joined (is_unstaged work) done [] a.state b.state c.state h.published
+          (publishes_nothing (is_unstaged work) [] b.state c.state h.sound_now (as_before_within (is_unstaged work) (apart_from (entry_stage work)) b.state c.state (unstaged_apart work (codes "f")) since.others)));
+      shows = λ region v part now.
+          shows_as_before region b.state c.state (present c.state) (present b.state) (view_after v done) (h.sound_now.tables (present b.state) (present_is_table b.state))
+          (λ q inside. since.others.seen q (unstaged_apart work (codes "f") q (part q inside))) since.others.nodes (h.published.shows region v part now);
+    };
+    views = λ q unstaged. still q (unstaged_below work (codes "f") q unstaged) ∙ h.views q unstaged;
+    ready = record {
+      entry = staged;
+      others = record {
+        folder = still work (unstaged_below work (codes "f") work (work_unstaged work)) ∙ h.ready.folder;
+        stage = still (stage_path work) (unstaged_below work (codes "f") (stage_path work) (stage_unstaged work)) ∙ h.ready.stage;
+        bare = λ y rest none. still (stage_path work ++ y ∷ rest) none ∙ h.ready.bare (y ∷ rest) (some_part y rest);
+      };
+    };
+    sound = h.sound;
+    sound_now = sound;
+    apart = h.apart;
+    beside = h.beside;
+    inside = h.inside;
+    new = h.new;
+  }
+    where
+      since : IsStagingFolder m.files (entry_stage work) b.state c.state
+      since = went_to (IsStagingFolder m.files (entry_stage work) b.state) (λ s k. StagesAt (entry_stage work) b.state s k.call) b c staging
+
+      still : (q : Path) → below (entry_stage work) q ≡ None → seen c.state q ≡ seen b.state q
+      still q none = seen_as_before (apart_from (entry_stage work)) b.state c.state h.sound_now since.others q (apart-from_below (entry_stage work) q none)
+
+  -- and is put in its place
+  module _ (done more : List Edit) (e : Edit) (a b d : Told) (h : HasEdited (Some e.made) work root m done (e ∷ more) a b) (free : ShowsFree (seen b.state) e.at) where
+    staged_yet : StagingAt m.files (entry_stage work) b b
+    staged_yet = went_nowhere (IsStagingFolder m.files (entry_stage work) b.state) (λ s k. StagesAt (entry_stage work) b.state s k.call) b
+        (record { others = as_before (apart_from (entry_stage work)) b.state; fronts = fronts_of_none m.files b.state })
+
+    pub entry_edits : (result : Result (Unit {0}) FolderFault) → Steps (Rename (entry_stage work) e.at) b d result → Edits work root m a d
+    entry_edits result steps = renamed_edits done more e a b b d (codes "f") h staged_yet h.ready.entry h.sound_now free result steps
+
+    pub entry_done : Steps (Rename (entry_stage work) e.at) b d (Ok tt) → HasEdited None work root m (done ++ e ∷ []) more a d
+    entry_done steps = renamed_so done more e a b b d (codes "f") h staged_yet h.ready.entry h.sound_now free None
+        (ready_then done more e a b b d (codes "f") h staged_yet h.ready.entry h.sound_now free h.ready.others) steps
 
   -- a directory is made at its place
-  module _ (done more : List Edit) (at : Path) (a b c : Told) (h : HasEdited work root m done (directory_edit at ∷ more) a b) (free : ShowsFree (seen b.state) at) where
+  module _ (done more : List Edit) (at : Path) (a b c : Told) (h : HasEdited None work root m done (directory_edit at ∷ more) a b) (free : ShowsFree (seen b.state) at) where
     dir_in_root : IsTrue (at_or_below root at)
     dir_in_root = h.inside (directory_edit at) (edit_among done more (directory_edit at) h.is)
 
@@ -300,7 +420,7 @@ module _ (work root : Path) (m : Making) where
         made_is (λ added allowed. so_far done (directory_edit at ∷ more) a b h)
         (λ outcome. inr (directory_edit at, edit_among done more (directory_edit at) h.is, refl)) steps)
 
-    made_then : Allowed b.state (MakeDir at) → (c : Told) → c ≡ told_after b (MakeDir at) Done → Edits work root m a c → HasEdited work root m (done ++ directory_edit at ∷ []) more a c
+    made_then : Allowed b.state (MakeDir at) → (c : Told) → c ≡ told_after b (MakeDir at) Done → Edits work root m a c → HasEdited None work root m (done ++ directory_edit at ∷ []) more a c
     made_then allowed c is went = record {
       is = h.is ∙ sym (append_assoc done (directory_edit at ∷ []) more);
       went = went;
@@ -324,11 +444,11 @@ module _ (work root : Path) (m : Making) where
         kept : (q : Path) → below at q ≡ None → seen (changed b.state (MakeDir at)) q ≡ seen b.state q
         kept q off = made_seen allowed q ∙ off_edit (seen b.state) (directory_edit at) q off
 
-    pub made_done : Steps (MakeDir at) b c (Ok tt) → HasEdited work root m (done ++ directory_edit at ∷ []) more a c
+    pub made_done : Steps (MakeDir at) b c (Ok tt) → HasEdited None work root m (done ++ directory_edit at ∷ []) more a c
     made_done steps = made_then steps.0 c steps.1 (made_edits (Ok tt) steps)
 
   -- all are done, and the directory changes are settled
-  module _ (a b c : Told) (done : List Edit) (h : HasEdited work root m done [] a b) where
+  module _ (a b c : Told) (done : List Edit) (h : HasEdited None work root m done [] a b) where
     settled_is : Allowed b.state Settle → IsEditing work root m a.state (changed b.state Settle)
     settled_is allowed = record {
       publishes = settle_publishes (is_unstaged work) m.edits a.state b.state (so_far done [] a b h).publishes;

@@ -30,7 +30,7 @@ use Rattle.vault_spec.specs.Opens.{Opened, Content, opened_by, opened_file}
 use Rattle.vault_spec.specs.Reached.{Leads}
 use Rattle.vault_spec.specs.Standing.{entry_at}
 use Rattle.vault_spec.specs.Vault.{Vault, Gocryptfs, Cryptomator, format_of}
-use Rattle.vault_write.specs.Editing.{GoPlaces, MayBePut, side_edits}
+use Rattle.vault_write.specs.Editing.{GoPlaces, side_edits}
 use Rattle.vault_write.specs.Filing.{entry_edit}
 use Rattle.item_making.specs.Making.{Placing, Making, format, making_in, new_item, path_of}
 use Rattle.item_making.specs.Placing.{MayMake, making_at}
@@ -198,7 +198,10 @@ file_places enters folders root (Gocryptfs keys) is work front name t may at sid
     go_places enters folders keys root work front name v at side full wants (may.ready v seen_so) may.apart may.beside (slot v seen_so) (side_is v seen_so).0
 file_places enters folders root (Cryptomator cm) is work front name t may at side full wants slot side_is v seen_so = absurd (no_go is)
 
-pub cm_entry_comes : Enters → FoldersStand → (vault : OpenedVault) (work : Path) (front : plain.Path) (name : List ℕ) (t : Option Told) → MayMake t work vault.root
-    → (at side : Path) (full : Option (List ℕ)) → SlotAt vault.root vault.vault front name t at side full → IfSeen t (λ v. MayBePut v work at)
-cm_entry_comes enters folders vault work front name t may at side full slot v seen_so =
-    entry_comes enters folders vault work front name v at side full (may.ready v seen_so) may.apart may.beside (slot v seen_so)
+pub cm_file_places : Enters → FoldersStand → (vault : OpenedVault) (work : Path) (front : plain.Path) (name : List ℕ) (t : Option Told) → MayMake t work vault.root
+    → (at side : Path) (full : Option (List ℕ)) → SlotAt vault.root vault.vault front name t at side full → IfSeen t (λ v. GoPlaces v work false side at)
+cm_file_places enters folders vault work front name t may at side full slot v seen_so = record {
+  entry = entry_comes enters folders vault work front name v at side full (may.ready v seen_so) may.apart may.beside (slot v seen_so);
+  side_comes = λ clash. cc clash;
+  others = λ clash. cc clash;
+}

@@ -1,6 +1,6 @@
 -- What a call promises that made a file's edits, or some of them.
 use Rattle.std.specs.Prelude.{Contains}
-use Rattle.std.proofs.Common.{arith, false, Bool, ◌≡◌, ◌≢◌, ℕ, ◌≤◌, List, [], ◌∷◌, ◌++◌, length, Option, Some, None, Result, Ok, Err, IsErrAnd, OnOk, refl, sym, ap, ◌∙◌, inl, inr, subst, append-nil, IsTrue}
+use Rattle.std.proofs.Common.{arith, false, Bool, ◌≡◌, ◌≢◌, ℕ, ◌≤◌, List, [], ◌∷◌, ◌++◌, length, Option, Some, None, Result, Ok, Err, IsErrAnd, refl, sym, ap, ◌∙◌, inl, inr, subst, append-nil, append_assoc, codes, IsTrue}
 use Rattle.std.proofs.lemmas.List.Elements.{Contains-append_left, Contains-append_right}
 use Rattle.std.proofs.Math.Path.{fun_ext}
 use Rattle.chunk_files.specs.Encrypt.{draws, encrypt}
@@ -8,16 +8,15 @@ use Rattle.chunk_files.specs.FileOf.{FilesAreWhatTheyGive, EncryptedFilesAreFile
 use Rattle.chunk_files.specs.Keys as contents
 use Rattle.chunk_files.specs.Keys.{Keys}
 use Rattle.port_model.specs.Draws.{ByteStream}
-use Rattle.folder_spec.specs.declared.FolderFault.{FolderFault}
+use Rattle.folder_spec.specs.declared.FolderFault.TheVariants as folder
 use Rattle.folder_spec.specs.Path.{Path, below}
 use Rattle.folder_spec.specs.State.{State, IsSound}
-use Rattle.folder_spec.specs.Edit.{Edit, edited, edits_under, view_after, PublishesIn}
+use Rattle.folder_spec.specs.Edit.{Edit, edits_under, view_after, PublishesIn}
 use Rattle.folder_spec.specs.Event.{Call, MakeDir, Create, Append, Sync, Settle, Rename, RemoveFile, RemoveDir, Told, FromTo}
 use Rattle.folder_spec.specs.Moments.{Went}
 use Rattle.folder_spec.specs.Seen.{IfSeen, seen, under}
 use Rattle.folder_spec.specs.View.{Found, View}
 use Rattle.folder_spec.proofs.Moments.{went_more, went_to}
-use Rattle.content_writing.proofs.Standing.{IsStill, ready_now, still_same}
 use Rattle.plain_tree.specs.Names as plain
 use Rattle.plain_tree.specs.Names.{is_name}
 use Rattle.vault_read.specs.Laws.{KeepsVaults}
@@ -33,29 +32,28 @@ use Rattle.vault_spec.specs.Making.{NewFile, full_texts}
 use Rattle.vault_spec.specs.Opens.{Opened, opened_file}
 use Rattle.vault_spec.specs.Vault.{format_of}
 use Rattle.item_making.specs.Ending.{Ending}
-use Rattle.content_writing.specs.Content.{Coming, IsReady, still_coming}
+use Rattle.content_writing.specs.Content.{Coming, still_coming}
 use Rattle.item_making.specs.Faults.{of_folder}
 use Rattle.content_writing.specs.Writing.{DrewNoZeros}
 use Rattle.item_making.specs.declared.fault.PutFault.{PutFault}
 use Rattle.item_making.specs.declared.fault.PutFault.TheVariants as puts
-use Rattle.vault_write.specs.Calls.{AnswersBy, How, InPlace, IsOfMaking, MakesFile, MakesOne, New, ReadsElsewhere, Writing}
-use Rattle.vault_write.specs.Editing.{AddsEdits, Edits, HasBegun, HasEdited, HasFinished, IsEditing, MayBePut, SeesSome, side_edits}
+use Rattle.vault_write.specs.Calls.{AnswersBy, How, InPlace, IsOfMaking, MakesFile, MakesOne, New, Writing}
+use Rattle.vault_write.specs.Editing.{DoesEdits, Edits, HasBegun, IsEditing, SeesSome, side_edits}
 use Rattle.vault_write.specs.Faults.{IsFileFault}
-use Rattle.vault_write.specs.Filing.{DoesLast, IsWhole, OnlyStages, PlacesEntry, PlacesBy, PlacesFile, StopsBy, entry_edit, entry_files}
+use Rattle.vault_write.specs.Filing.{IsWhole, OnlyStages, PlacesEntry, PlacesBy, PlacesFile, StopsBy, entry_edit, entry_files, entry_making, file_of}
 use Rattle.item_making.specs.Making.{Placing, Making, format, path_of, new_item, is_unstaged, StagesOrPlaces}
 use Rattle.item_making.specs.Placing.{IsMaking, MayMake, making_at}
-use Rattle.vault_write.specs.Refusing.{Answers, HasTaken}
+use Rattle.vault_write.specs.Refusing.{Answers, HasTaken, MayDraw}
 use Rattle.vault_write.specs.Showing.{EditsShowTrees, EditsBeforeTheLastKeepTrees, SettledEditsShowTrees}
 use Rattle.vault_write.specs.Slots.{placing, wants_text}
-use Rattle.vault_write.proofs.Adding.{adds_none}
-use Rattle.vault_write.proofs.Begun.{FoldersStand, all_are, all_below}
+use Rattle.vault_write.proofs.Adding.{adds_staging}
+use Rattle.vault_write.proofs.Begun.{all_are, all_below}
 use Rattle.vault_write.proofs.Edited.{begun}
 use Rattle.vault_write.proofs.Exits.{at_fault}
-use Rattle.vault_write.proofs.FileBegun.{IsFiled, SlotAt, file_making, file_places, filed_in_cm, filed_in_go, is_begun, opens_whole}
-use Rattle.vault_write.proofs.Filing.{edits_still, no_zeros_in_none, placed_still, stops_folder, takes_none, untaken}
+use Rattle.vault_write.proofs.FileBegun.{IsFiled, SlotAt, file_making, filed_in_cm, filed_in_go, is_begun, opens_whole}
+use Rattle.vault_write.proofs.Filing.{no_zeros_in_none, only_staged, takes_none, untaken}
 use Rattle.vault_write.proofs.Found.{Enters}
-use Rattle.vault_write.proofs.ItemMade.{IsBegun, IsRootFault, IsSplit, MayRefuse, RootsShow, at_itself, by_root, folder_drew, makes_named, makes_root, one_error, one_failed, one_ok, one_refused, one_stopped, root_fault, split}
-use Rattle.vault_write.proofs.Placed.{doing_first, entry_may, none_among}
+use Rattle.vault_write.proofs.ItemMade.{IsBegun, IsRootFault, IsSplit, MayRefuse, RootsShow, at_itself, by_root, folder_drew, fronts_keep, makes_named, makes_root, one_error, one_failed, one_ok, one_refused, one_stopped, root_fault, split}
 use Rattle.vault_write.proofs.Seeing.{if_seen}
 use Rattle.vault_write.proofs.Stages.{root_unstaged}
 
@@ -75,11 +73,10 @@ places_more work firsts e some_files s (RemoveFile at) h = h
 places_more work firsts e some_files s (RemoveDir at) h = h
 
 -- until the last of some edits, what opens stays
-fronts_keep : (f : Format) (v w : View) (first rest : List Edit) (e : Edit) (at : plain.Path) (item : Opened) → OpensAs f v w → ComesAtLast f v w ((first ++ rest) ++ e ∷ []) at item → OpensAs f v (view_after w first)
-fronts_keep f v w [] rest e at item same comes = same
-fronts_keep f v w (x ∷ []) [] e at item same comes = comes.0
-fronts_keep f v w (x ∷ []) (y ∷ rest) e at item same comes = comes.0
-fronts_keep f v w (x ∷ y ∷ first) rest e at item same comes = fronts_keep f v (edited w x) (y ∷ first) rest e at item comes.0 comes.1
+fronts_keep_all : (f : Format) (v w : View) (first rest : List Edit) (e : Edit) (at : plain.Path) (item : Opened) → OpensAs f v w → ComesAtLast f v w ((first ++ rest) ++ e ∷ []) at item → OpensAs f v (view_after w first)
+fronts_keep_all f v w first [] e at item same comes = fronts_keep f v w first e [] at item same (subst (λ es. ComesAtLast f v w (es ++ e ∷ []) at item) (append-nil first) comes)
+fronts_keep_all f v w first (next ∷ rest) e at item same comes =
+    fronts_keep f v w first next (rest ++ e ∷ []) at item same (subst (λ es. ComesAtLast f v w es at item) (append_assoc first (next ∷ rest) (e ∷ [])) comes)
 
 -- what is seen at the root after the first of some edits below it
 pub first_shown : RootsShow → (p : Placing) → below p.work p.vault.root ≡ None → below p.vault.root p.work ≡ None → (a b : Told) (first done : List Edit) → done ≡ edits_under p.vault.root first
@@ -111,7 +108,7 @@ module _ (keeps : EditsBeforeTheLastKeepTrees) (roots : RootsShow) (p : Placing)
         (went_to (IsEditing p.work p.vault.root (stopped_making firsts some_files) a.state) (λ s k. StagesOrPlaces p.work (stopped_making firsts some_files) s k.call) a b went).sees in
         let parts : IsSplit p.vault.root filed.before now.done now.more = split p.vault.root filed.before now.done now.more (sym filed.are ∙ now.is) in
         subst (λ w. OpensAs (format p) (under p.vault.root (seen a.state)) w) (sym (first_shown roots p filed.apart filed.beside a b parts.first now.done parts.done_is now.views))
-        (fronts_keep (format p) (under p.vault.root (seen a.state)) (under p.vault.root (seen a.state)) parts.first parts.rest filed.at_last (path_of p) opens (λ path. refl)
+        (fronts_keep_all (format p) (under p.vault.root (seen a.state)) (under p.vault.root (seen a.state)) parts.first parts.rest filed.at_last (path_of p) opens (λ path. refl)
         (subst (λ es. ComesAtLast (format p) (under p.vault.root (seen a.state)) (under p.vault.root (seen a.state)) (es ++ filed.at_last ∷ []) (path_of p) opens) parts.is filed.last))
 
   pub filed_in_part : (t w : Option Told) → ((a : Told) → t ≡ Some a → IsFiled p opens drawn firsts e some_files a) → (ending : Ending) (fault : PutFault) → MayRefuse p drawn t w fault
@@ -121,21 +118,22 @@ module _ (keeps : EditsBeforeTheLastKeepTrees) (roots : RootsShow) (p : Placing)
 
 -- ---- what is answered
 
-answers_stopped : (p : Placing) (w : Writing) (u : View) (fault : PutFault) → HasTaken p w.drawn u None → StopsBy (format p).content w fault → Answers p w.drawn w.ending u (Err fault)
-answers_stopped p w u (puts.Damaged at fault) free stops = (free, stops)
-answers_stopped p w u (puts.Limit limit) free stops = (free, stops)
-answers_stopped p w u puts.ZeroRandom free stops = stops
-answers_stopped p w u puts.Source free stops = tt
-answers_stopped p w u puts.Random free stops = tt
-answers_stopped p w u puts.Failed free stops = tt
-answers_stopped p w u puts.NoMemory free stops = tt
-answers_stopped p w u (puts.Find fault) free stops = absurd stops
-answers_stopped p w u (puts.NotAllowed path) free stops = absurd stops
-answers_stopped p w u (puts.Taken at) free stops = absurd stops
+answers_stopped : (p : Placing) (w : Writing) (u : View) (fault : PutFault) → MayDraw p u → HasTaken p w.drawn u None → StopsBy (format p).content w fault → Answers p w.drawn w.ending u (Err fault)
+answers_stopped p w u (puts.Damaged at fault) may_draw free stops = (free, stops)
+answers_stopped p w u (puts.Limit limit) may_draw free stops = (free, stops)
+answers_stopped p w u puts.ZeroRandom may_draw free stops = (may_draw, stops)
+answers_stopped p w u puts.Source may_draw free stops = may_draw
+answers_stopped p w u puts.Random may_draw free stops = may_draw
+answers_stopped p w u puts.Failed may_draw free stops = tt
+answers_stopped p w u puts.NoMemory may_draw free stops = tt
+answers_stopped p w u (puts.Find fault) may_draw free stops = absurd stops
+answers_stopped p w u (puts.NotAllowed path) may_draw free stops = absurd stops
+answers_stopped p w u (puts.Taken at) may_draw free stops = absurd stops
 
 -- writing stops once the making has begun
-pub stopped_by : (p : Placing) (w : Writing) (t s : Option Told) (fault : PutFault) → length w.drawn ≤ making.draws (format p) p.item → StopsBy (format p).content w fault → (fault ≢ puts.ZeroRandom → DrewNoZeros (format p).content w.drawn) → MayRefuse p w.drawn t s fault
-stopped_by p w t s fault few stops accepted = record { few = few; tested = inl (goes_on fault stops); zeros = λ same. subst (StopsBy (format p).content w) same stops; accepted = accepted }
+pub stopped_by : (p : Placing) (w : Writing) (some_files : List (List ℕ)) (t s : Option Told) (fault : PutFault) → length w.drawn ≤ making.draws (format p) p.item → StopsBy (format p).content w fault → (fault ≢ puts.ZeroRandom → DrewNoZeros (format p).content w.drawn)
+    → OnlyStages p.work some_files t s → MayRefuse p w.drawn t s fault
+stopped_by p w some_files t s fault few stops accepted stages = record { few = few; tested = inl (goes_on fault stops); unpublished = only_staged p.work some_files t s stages; zeros = λ same. subst (StopsBy (format p).content w) same stops; accepted = accepted }
   where
     goes_on : (fault : PutFault) → StopsBy (format p).content w fault → IsOfMaking fault
     goes_on (puts.Find fault) stops = stops
@@ -166,7 +164,7 @@ begins_at work root m (Some a) new relative may sound =
     (λ e among. all_below root (relative a refl).0 e (subst (λ es. Contains es e) (relative a refl).1 among)) new
 
 module _ (shows : EditsShowTrees) (keeps : EditsBeforeTheLastKeepTrees) (settles : SettledEditsShowTrees) (roots : RootsShow) (gives : FilesAreWhatTheyGive) (are : EncryptedFilesAreFiles)
-    (vault : OpenedVault) (work : Path) (front : plain.Path) (name : List ℕ) (at : Path) (inside full : Option (List ℕ)) (firsts : List Edit) (first_files : List (List ℕ)) where
+    (vault : OpenedVault) (work : Path) (front : plain.Path) (name : List ℕ) (at : Path) (inside full : Option (List ℕ)) (firsts : List Edit) where
   abbrev keys : Keys
   keys = (format_of vault.vault).content
 
@@ -185,13 +183,12 @@ module _ (shows : EditsShowTrees) (keeps : EditsBeforeTheLastKeepTrees) (settles
   abbrev Filed : Option Told → Type 0
   Filed t = (content drawn : List ℕ) (a : Told) → t ≡ Some a → IsFiled (place content) (opens_so content drawn) drawn firsts (last_edit content drawn) (all_files content drawn) a
 
-  module _ (t u : Option Told) (may : MayMake t work vault.root) (sound : (a : Told) → t ≡ Some a → IsSound a.state) (filed : Filed t)
-      (first_within : (bytes file : List ℕ) → Contains first_files file → Contains (full_texts full ++ bytes ∷ []) file)
+  module _ (t : Option Told) (may : MayMake t work vault.root) (sound : (a : Told) → t ≡ Some a → IsSound a.state) (filed : Filed t)
       (entry_within : (bytes file : List ℕ) → Contains (entry_files inside bytes) file → Contains (full_texts full ++ bytes ∷ []) file) where
     begins_some : (content drawn : List ℕ) → HasBegun work vault.root (stopped_making firsts (all_files content drawn)) t
     begins_some content drawn = begins_at work vault.root (stopped_making firsts (all_files content drawn)) t refl (λ a is. ((filed content drawn a is).before, (filed content drawn a is).are)) may sound
 
-    begins_all : (content drawn : List ℕ) → HasBegun work vault.root (file_making firsts (last_edit content drawn) (all_files content drawn)) t
+    pub begins_all : (content drawn : List ℕ) → HasBegun work vault.root (file_making firsts (last_edit content drawn) (all_files content drawn)) t
     begins_all content drawn = begins_at work vault.root (file_making firsts (last_edit content drawn) (all_files content drawn)) t refl
         (λ a is. (
           (filed content drawn a is).before ++ (filed content drawn a is).at_last ∷ [],
@@ -202,113 +199,71 @@ module _ (shows : EditsShowTrees) (keeps : EditsBeforeTheLastKeepTrees) (settles
     free_at : (content drawn : List ℕ) → IfSeen t (λ v. HasTaken (place content) drawn (under vault.root v) None)
     free_at content drawn = if_seen (λ v. HasTaken (place content) drawn (under vault.root v) None) t (λ a told. (filed content drawn a told).taken)
 
-    some_done : (result : Result (Unit {0}) FolderFault) → AddsEdits work firsts first_files t u result → (content drawn : List ℕ)
-        → FromTo (Edits work vault.root (stopped_making firsts (all_files content drawn))) t u × OnOk result (FromTo (HasEdited work vault.root (stopped_making firsts (all_files content drawn)) firsts []) t u)
-    some_done result adds content drawn =
-        doing_first work vault.root (stopped_making firsts (all_files content drawn)) firsts [] first_files t u result (sym (append-nil firsts)) (first_within (encrypt keys drawn content)) (begins_some content drawn) adds
-
-    pub firsts_done : AddsEdits work firsts first_files t u (Ok tt) → FromTo (HasEdited work vault.root (stopped_making firsts (all_files [] [])) firsts []) t u
-    firsts_done adds = (some_done (Ok tt) adds [] []).1
-
-    pub firsts_failed : (coming : Option Coming) (stream : Option ByteStream) (fault : FolderFault) → AddsEdits work firsts first_files t u (Err fault)
-        → PlacesFile New vault work front name coming coming stream stream t u (Err (of_folder fault))
-    firsts_failed coming stream fault adds = record {
-      writing = untaken coming;
-      takes = takes_none keys coming stream (of_folder fault);
-      one = filed_in_part keeps roots (place (untaken coming).content) (opens_so (untaken coming).content []) [] firsts (last_edit (untaken coming).content []) (all_files (untaken coming).content []) t u
-          (filed (untaken coming).content []) (untaken coming).ending (of_folder fault) (stopped_by (place (untaken coming).content) (untaken coming) t u (of_folder fault) (omega arith) (stops_folder keys (untaken coming) fault) (λ other. no_zeros_in_none keys)) (some_done (Err fault) adds (untaken coming).content []).0
-          (λ v is. answers_stopped (place (untaken coming).content) (untaken coming) (under vault.root v) (of_folder fault) (free_at (untaken coming).content [] v is) (stops_folder keys (untaken coming) fault));
-    }
-
-    module _ (s : Option Told) (w : Writing) (adds : AddsEdits work firsts first_files t u (Ok tt)) (enough : length w.drawn ≤ draws (contents.format_of keys) w.content) where
-      last_done : (result : Result (Unit {0}) FolderFault) → DoesLast work (last_edit w.content w.drawn) (entry_files inside (encrypt keys w.drawn w.content)) u s result
-          → FromTo (Edits work vault.root (file_making firsts (last_edit w.content w.drawn) (all_files w.content w.drawn))) t s
-          × OnOk result (FromTo (HasFinished work vault.root (file_making firsts (last_edit w.content w.drawn) (all_files w.content w.drawn))) t s)
-      last_done result does = does vault.root (file_making firsts (last_edit w.content w.drawn) (all_files w.content w.drawn)) firsts t (entry_within (encrypt keys w.drawn w.content))
-          (doing_first work vault.root (file_making firsts (last_edit w.content w.drawn) (all_files w.content w.drawn)) firsts (last_edit w.content w.drawn ∷ []) first_files t u (Ok tt) refl
-          (first_within (encrypt keys w.drawn w.content)) (begins_all w.content w.drawn) adds).1
-
+    module _ (s : Option Told) (w : Writing) (enough : length w.drawn ≤ draws (contents.format_of keys) w.content) where
       begun_at : IsWhole keys w → (a : Told) → t ≡ Some a → IsBegun (place w.content) w.drawn (file_making firsts (last_edit w.content w.drawn) (all_files w.content w.drawn)) a
       begun_at whole a is = is_begun (place w.content) (opens_so w.content w.drawn) w.drawn firsts (last_edit w.content w.drawn) (all_files w.content w.drawn) a
           (opens_whole gives are keys w.drawn w.content whole.encrypted) (filed w.content w.drawn a is)
 
       -- it only was staged
-      stopped_one : (fault : PutFault) → (fault ≢ puts.ZeroRandom → DrewNoZeros keys w.drawn) → StopsBy keys w fault → OnlyStages work (entry_files inside (encrypt keys w.drawn w.content)) u s → MakesOne New (place w.content) w.ending w.drawn t s (Err fault)
+      stopped_one : (fault : PutFault) → (fault ≢ puts.ZeroRandom → DrewNoZeros keys w.drawn) → StopsBy keys w fault → OnlyStages work (entry_files inside (encrypt keys w.drawn w.content)) t s → MakesOne New (place w.content) w.ending w.drawn t s (Err fault)
       stopped_one fault accepted stops stages =
-          filed_in_part keeps roots (place w.content) (opens_so w.content w.drawn) w.drawn firsts (last_edit w.content w.drawn) (all_files w.content w.drawn) t s (filed w.content w.drawn) w.ending fault (stopped_by (place w.content) w t s fault enough stops accepted)
-          (stages vault.root (stopped_making firsts (all_files w.content w.drawn)) firsts [] t (entry_within (encrypt keys w.drawn w.content)) (some_done (Ok tt) adds w.content w.drawn).1).0
-          (λ v is. answers_stopped (place w.content) w (under vault.root v) fault (free_at w.content w.drawn v is) stops)
+          filed_in_part keeps roots (place w.content) (opens_so w.content w.drawn) w.drawn firsts (last_edit w.content w.drawn) (all_files w.content w.drawn) t s (filed w.content w.drawn) w.ending fault
+          (stopped_by (place w.content) w (entry_files inside (encrypt keys w.drawn w.content)) t s fault enough stops accepted stages)
+          (adds_staging None work (codes "f") [] (entry_files inside (encrypt keys w.drawn w.content)) t s folder.NoMemory stages vault.root (stopped_making firsts (all_files w.content w.drawn)) [] firsts t
+          (entry_within (encrypt keys w.drawn w.content)) (begins_some w.content w.drawn)).0
+          (λ v is. let free : HasTaken (place w.content) w.drawn (under vault.root v) None = free_at w.content w.drawn v is in
+          answers_stopped (place w.content) w (under vault.root v) fault (record { dir = free.dir; there = free.there; free = free.is }) free stops)
 
-      placed_one : (result : Result (Unit {0}) PutFault) → (result ≢ Err puts.ZeroRandom → DrewNoZeros keys w.drawn) → PlacesBy keys w (DoesLast work (last_edit w.content w.drawn) (entry_files inside (encrypt keys w.drawn w.content)) u s) (OnlyStages work (entry_files inside (encrypt keys w.drawn w.content)) u s) result
+      placed_one : (result : Result (Unit {0}) PutFault) → (result ≢ Err puts.ZeroRandom → DrewNoZeros keys w.drawn) → PlacesBy keys w (DoesEdits work vault.root (file_making firsts (last_edit w.content w.drawn) (all_files w.content w.drawn)) t s) (OnlyStages work (entry_files inside (encrypt keys w.drawn w.content)) t s) result
           → MakesOne New (place w.content) w.ending w.drawn t s result
       placed_one (Ok value) accepted (whole, does) =
           subst (λ x. MakesOne New (place w.content) x w.drawn t s (Ok tt)) (sym whole.whole)
-          (one_ok shows settles roots (place w.content) w.drawn (file_making firsts (last_edit w.content w.drawn) (all_files w.content w.drawn)) t s (begun_at whole) whole.encrypted.enough (accepted (λ clash. cc))
-          (last_done (Ok tt) does).0 (last_done (Ok tt) does).1)
+          (one_ok shows settles roots (place w.content) w.drawn (file_making firsts (last_edit w.content w.drawn) (all_files w.content w.drawn)) t s (begun_at whole) whole.encrypted.enough (accepted (λ clash. cc)) does.0 does.1)
       placed_one (Err fault) accepted (stops, inl stages) = stopped_one fault (λ other. accepted (λ same. other (one_error same))) stops stages
       placed_one (Err fault) accepted (stops, inr (failed, is, whole, does)) =
           subst (λ x. MakesOne New (place w.content) w.ending w.drawn t s (Err x)) (sym is)
           (subst (λ x. MakesOne New (place w.content) x w.drawn t s (Err (of_folder failed))) (sym whole.whole)
           (one_failed shows settles roots (place w.content) w.drawn (file_making firsts (last_edit w.content w.drawn) (all_files w.content w.drawn)) t s (begun_at whole) whole.encrypted.enough failed (accepted (λ same. folder_drew failed (sym is ∙ one_error same)))
-          (last_done (Err failed) does).0))
+          does.0))
 
-    pub file_placed : (coming left : Option Coming) (stream stream' : Option ByteStream) (s : Option Told) (result : Result (Unit {0}) PutFault) → AddsEdits work firsts first_files t u (Ok tt)
-        → PlacesEntry keys work at inside coming left stream stream' u s result → PlacesFile New vault work front name coming left stream stream' t s result
-    file_placed coming left stream stream' s result adds k = record { writing = k.writing; takes = k.takes; one = placed_one s k.writing adds k.enough result k.takes.accepted k.ends }
+    pub file_placed : (coming left : Option Coming) (stream stream' : Option ByteStream) (s : Option Told) (result : Result (Unit {0}) PutFault)
+        → PlacesEntry keys work vault.root inside (λ bytes. file_making firsts (entry_edit at inside bytes) (full_texts full ++ bytes ∷ [])) coming left stream stream' t s result → PlacesFile New vault work front name coming left stream stream' t s result
+    file_placed coming left stream stream' s result k = record { writing = k.writing; takes = k.takes; one = placed_one s k.writing k.enough result k.takes.accepted k.ends }
 
 -- ---- the calls by format
-
-none_first : (full : Option (List ℕ)) (bytes file : List ℕ) → Contains {X = List ℕ} [] file → Contains (full_texts full ++ bytes ∷ []) file
-none_first full bytes file among = none_among (full_texts full ++ bytes ∷ []) file among
 
 module _ (shows : EditsShowTrees) (keeps : EditsBeforeTheLastKeepTrees) (settles : SettledEditsShowTrees) (roots : RootsShow) (gives : FilesAreWhatTheyGive) (are : EncryptedFilesAreFiles)
     (enters : Enters) (vault : OpenedVault) (laws : KeepsVaults (format_of vault.vault)) (work : Path) (front : plain.Path) (name : List ℕ) (named : IsTrue (is_name name))
     (at side : Path) (full : Option (List ℕ)) (t : Option Told) (sound : (a : Told) → t ≡ Some a → IsSound a.state) (may : MayMake t work vault.root) (slot : SlotAt vault.root vault.vault front name t at side full) where
-  pub cm_placed : kind_of vault.vault ≡ kind.Cryptomator → (coming left : Option Coming) (stream stream' : Option ByteStream) (s : Option Told) (result : Result (Unit {0}) PutFault)
-      → PlacesEntry (format_of vault.vault).content work at full coming left stream stream' t s result → PlacesFile New vault work front name coming left stream stream' t s result
-  cm_placed is coming left stream stream' s result k =
-      file_placed shows keeps settles roots gives are vault work front name at full full [] [] t t may sound
-      (filed_in_cm enters vault.root vault.vault is laws work front name named t sound may at side full slot) (none_first full) (λ bytes file among. among)
-      coming left stream stream' s result (adds_none work [] t) k
+  abbrev file_keys : Keys
+  file_keys = (format_of vault.vault).content
 
-  module _ (is : kind_of vault.vault ≡ kind.Gocryptfs) (wants : Bool) (side_is : IfSeen t (λ v. (wants ≡ wants_text (v side) full) × (taken_unless side (v side) full ≡ None))) (u : Option Told) where
-    go_filed_at : Filed shows keeps settles roots gives are vault work front name at None full (side_edits wants side full) (full_texts full) t
+  module _ (is : kind_of vault.vault ≡ kind.Cryptomator) where
+    cm_filed_at : Filed shows keeps settles roots gives are vault work front name at full full [] t
+    cm_filed_at = filed_in_cm enters vault.root vault.vault is laws work front name named t sound may at side full slot
+
+    pub cm_begins : (w : Writing) → HasBegun work vault.root (entry_making false side at None full (file_of file_keys w)) t
+    cm_begins w = begins_all shows keeps settles roots gives are vault work front name at full full [] t may sound cm_filed_at (λ bytes file among. among) w.content w.drawn
+
+    pub cm_placed : (coming left : Option Coming) (stream stream' : Option ByteStream) (s : Option Told) (result : Result (Unit {0}) PutFault)
+        → PlacesEntry file_keys work vault.root full (entry_making false side at None full) coming left stream stream' t s result → PlacesFile New vault work front name coming left stream stream' t s result
+    cm_placed coming left stream stream' s result k =
+        file_placed shows keeps settles roots gives are vault work front name at full full [] t may sound cm_filed_at (λ bytes file among. among) coming left stream stream' s result k
+
+  module _ (is : kind_of vault.vault ≡ kind.Gocryptfs) (wants : Bool) (side_is : IfSeen t (λ v. (wants ≡ wants_text (v side) full) × (taken_unless side (v side) full ≡ None))) where
+    go_filed_at : Filed shows keeps settles roots gives are vault work front name at None full (side_edits wants side full) t
     go_filed_at = filed_in_go enters vault.root vault.vault is laws work front name named t sound may at side full wants slot side_is
-
-    side_first : (bytes file : List ℕ) → Contains (full_texts full) file → Contains (full_texts full ++ bytes ∷ []) file
-    side_first bytes file among = Contains-append_left (full_texts full) (bytes ∷ []) file among
 
     entry_last : (bytes file : List ℕ) → Contains (bytes ∷ []) file → Contains (full_texts full ++ bytes ∷ []) file
     entry_last bytes file among = Contains-append_right (full_texts full) (bytes ∷ []) file among
 
-    pub go_failed : (coming : Option Coming) (stream : Option ByteStream) (fault : FolderFault) → AddsEdits work (side_edits wants side full) (full_texts full) t u (Err fault)
-        → PlacesFile New vault work front name coming coming stream stream t u (Err (of_folder fault))
-    go_failed coming stream fault adds =
-        firsts_failed shows keeps settles roots gives are vault work front name at None full (side_edits wants side full) (full_texts full) t u may sound go_filed_at side_first entry_last coming stream fault adds
+    pub go_begins : (w : Writing) → HasBegun work vault.root (entry_making wants side at full None (file_of file_keys w)) t
+    go_begins w = begins_all shows keeps settles roots gives are vault work front name at None full (side_edits wants side full) t may sound go_filed_at entry_last w.content w.drawn
 
-    module _ (adds : AddsEdits work (side_edits wants side full) (full_texts full) t u (Ok tt)) where
-      side_done : FromTo (HasEdited work vault.root (stopped_making (side_edits wants side full) (full_texts full ++ encrypt (format_of vault.vault).content [] [] ∷ [])) (side_edits wants side full) []) t u
-      side_done = firsts_done shows keeps settles roots gives are vault work front name at None full (side_edits wants side full) (full_texts full) t u may sound go_filed_at side_first entry_last adds
-
-      pub go_may : FoldersStand → IfSeen u (λ v. MayBePut v work at)
-      go_may folders = entry_may work vault.root (stopped_making (side_edits wants side full) (full_texts full ++ encrypt (format_of vault.vault).content [] [] ∷ [])) wants side at full [] t u side_done
-          (file_places enters folders vault.root vault.vault is work front name t may at side full wants slot side_is)
-
-      module _ (reads : Option Path) (elsewhere : ReadsElsewhere reads work vault.root) (f : Found → Option Coming) where
-        still : IsStill reads t u
-        still = edits_still reads work vault.root (stopped_making (side_edits wants side full) (full_texts full ++ encrypt (format_of vault.vault).content [] [] ∷ [])) (side_edits wants side full) [] t u elsewhere side_done
-
-        pub go_ready : IsReady reads t f → IsReady reads u f
-        go_ready ready = ready_now reads t u still f ready
-
-        pub go_placed : (f' : Found → Option Coming) (stream stream' : Option ByteStream) (s : Option Told) (result : Result (Unit {0}) PutFault)
-            → PlacesEntry (format_of vault.vault).content work at None (still_coming reads u f) (still_coming reads u f') stream stream' u s result
-            → PlacesFile New vault work front name (still_coming reads t f) (still_coming reads t f') stream stream' t s result
-        go_placed f' stream stream' s result k =
-            file_placed shows keeps settles roots gives are vault work front name at None full (side_edits wants side full) (full_texts full) t u may sound go_filed_at side_first entry_last
-            (still_coming reads t f) (still_coming reads t f') stream stream' s result adds
-            (placed_still (format_of vault.vault).content work at None (still_coming reads u f) (still_coming reads t f) (still_coming reads u f') (still_coming reads t f') stream stream' u s result
-            (still_same reads t u still f) (still_same reads t u still f') k)
+    pub go_placed : (coming left : Option Coming) (stream stream' : Option ByteStream) (s : Option Told) (result : Result (Unit {0}) PutFault)
+        → PlacesEntry file_keys work vault.root None (entry_making wants side at full None) coming left stream stream' t s result → PlacesFile New vault work front name coming left stream stream' t s result
+    go_placed coming left stream stream' s result k =
+        file_placed shows keeps settles roots gives are vault work front name at None full (side_edits wants side full) t may sound go_filed_at entry_last coming left stream stream' s result k
 
 -- ---- at a plain path
 
@@ -334,9 +289,9 @@ root_file {vault} {work} {path} {coming} {stream} {t} {fault} how none is = reco
   makes = makes_root how vault work path (NewFile (untaken coming).content) (untaken coming).ending t fault none is;
 }
 
-fits_root : (how : How) (root : Path) → IsFileFault (root_fault how root)
-fits_root New root = tt
-fits_root InPlace root = tt
+fits_root : (reads : Option Path) (how : How) (root : Path) → IsFileFault reads (root_fault how root)
+fits_root reads New root = tt
+fits_root reads InPlace root = tt
 
-pub root_fits : (how : How) (root : Path) (fault : PutFault) → IsRootFault how root fault → IsFileFault fault
-root_fits how root fault = by_root how root fault IsFileFault tt (fits_root how root)
+pub root_fits : (reads : Option Path) (how : How) (root : Path) (fault : PutFault) → IsRootFault how root fault → IsFileFault reads fault
+root_fits reads how root fault = by_root how root fault (IsFileFault reads) tt (fits_root reads how root)

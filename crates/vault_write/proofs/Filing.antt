@@ -1,32 +1,34 @@
 -- The entry of a content is staged whole, renamed, and settled.
 use Rattle.std.specs.Prelude.{Contains}
-use Rattle.std.specs.Result.{IsErr}
-use Rattle.std.proofs.Common.{arith, true, false, not, zero, suc, ◌≡◌, ◌≢◌, ℕ, ◌≤◌, List, [], ◌∷◌, ◌++◌, length, Option, Some, None, Result, Ok, Err, IsErrAnd, OnOk, refl, sym, ap, ◌∙◌, inl, inr, subst, append-nil, IsTrue, codes, ◌*◌}
+use Rattle.std.proofs.Common.{arith, true, Bool, suc, ◌≡◌, ◌≢◌, ℕ, ◌≤◌, List, [], ◌∷◌, ◌++◌, length, Option, Some, None, Result, Ok, Err, IsErrAnd, OnOk, refl, sym, ap, ◌∙◌, inl, inr, subst, append-nil, codes, ◌*◌}
 use Rattle.std.proofs.lemmas.List.Elements.{Contains-append_left, Contains-append_right}
 use Rattle.chunk_files.specs.Encrypt.{encrypt}
 use Rattle.chunk_files.specs.Keys.{Keys}
 use Rattle.port_model.specs.Draws.{ByteStream}
 use Rattle.folder_spec.specs.declared.FolderFault.{FolderFault}
 use Rattle.folder_spec.specs.declared.FolderFault.TheVariants as folder
-use Rattle.folder_spec.specs.Path.{Part, Path, below, child}
+use Rattle.folder_spec.specs.Path.{Part, Path, below, child, parent}
 use Rattle.folder_spec.specs.State.{present, IsSound}
-use Rattle.folder_spec.specs.Edit.{Edit, edited, file_view, view_after, IsStagedView}
+use Rattle.folder_spec.specs.Edit.{Edit, file_view, IsStagedView}
 use Rattle.folder_spec.specs.Event.{Allowed, Settle, Rename, Told, Changes, FromTo}
-use Rattle.folder_spec.specs.Region.{apart_from, at_or_below}
+use Rattle.folder_spec.specs.Region.{IsAsBefore, StagesAt, apart_from}
 use Rattle.folder_spec.specs.Replace.{IsNewFile}
 use Rattle.folder_spec.specs.Seen.{IfSeen, ShowsFree, seen}
 use Rattle.folder_spec.specs.View.{Found, NoEntry, View}
-use Rattle.folder_spec.proofs.Edits.{off_edit}
-use Rattle.folder_spec.proofs.Moments.{went_to}
+use Rattle.folder_spec.proofs.Moments.{went_nowhere, went_to}
+use Rattle.folder_spec.proofs.Paths.{below-parent, below-sibling}
 use Rattle.folder_spec.proofs.Replaces.{apart-from_below}
 use Rattle.folder_spec.proofs.Stages.{Staging}
-use Rattle.folder_spec.proofs.Tellings.{from_to_more}
-use Rattle.folder_spec.proofs.Regions.{seen_as_before}
+use Rattle.folder_spec.proofs.Tellings.{from_to_more, from_to_same}
+use Rattle.folder_spec.proofs.Seen.{seen_of}
+use Rattle.folder_spec.proofs.Written.{fronts_of_none}
+use Rattle.folder_spec.proofs.Regions.{as_before, as_before_within, seen_as_before}
 use Rattle.port_model.proofs.Draws.{Draws-nil}
-use Rattle.folder_staging.specs.Folders.{BeginsFolder, IsStagingFolder, StagesFolder, HasStaged, IsStagedFolder}
+use Rattle.folder_staging.specs.Folders.{BeginsFolder, IsStagingFolder, StagesFolder, IsStagedFolder}
 use Rattle.folder_staging.specs.Pieces.{Stages}
 use Rattle.work_folder.specs.Entries.{stage_path}
 use Rattle.vault_spec.specs.Cryptomator.{content_file, full_file}
+use Rattle.vault_spec.specs.Making.{full_texts}
 use Rattle.item_making.specs.Ending.{Whole}
 use Rattle.content_writing.specs.Content.{Coming, Gave, IsReady, ends, still_coming}
 use Rattle.item_making.specs.Faults.{of_folder}
@@ -36,14 +38,16 @@ use Rattle.content_writing.proofs.Standing.{IsStill, ready_now, still_same}
 use Rattle.item_making.specs.declared.fault.PutFault.{PutFault}
 use Rattle.item_making.specs.declared.fault.PutFault.TheVariants as puts
 use Rattle.vault_write.specs.Calls.{ReadsElsewhere, TakesContent, Writing}
-use Rattle.vault_write.specs.Editing.{AddsEdits, AddsName, HasEdited, MayBePut}
-use Rattle.vault_write.specs.Filing.{DoesLast, IsWhole, OnlyStages, PlacesEntry, PublishesEntry, StagesEntry, StopsBy, entry_edit, entry_files, entry_view, file_of}
-use Rattle.item_making.specs.Making.{Making, is_inside, is_unstaged}
-use Rattle.vault_write.proofs.Adding.{adds_nothing, adds_renamed, adds_staging, file_staged, file_staging, finishes, IsStagedWhole, renames_allowed, staged_below}
+use Rattle.vault_write.specs.Editing.{AddsEdits, AddsName, DoesEdits, Edits, GoPlaces, HasBegun, HasEdited, MayBeBeside, entry_stage, side_edits}
+use Rattle.vault_write.specs.Filing.{IsWhole, OnlyStages, PlacesEntry, PublishesEntry, StagesEntry, StopsBy, entry_edit, entry_files, entry_making, entry_view, file_of}
+use Rattle.item_making.specs.Making.{Making, is_unstaged}
+use Rattle.vault_write.proofs.Adding.{adds_entry, entry_renamed, file_staged, file_staging, finishes, held_allowed, IsStagedWhole, may_beside, staged_below}
 use Rattle.vault_write.proofs.Directories.{Are, AreSeen, Gain, gains, name_place, whole_staged}
 use Rattle.vault_write.proofs.Edited.{StagingAt}
 use Rattle.vault_write.proofs.Exits.{at_fault}
-use Rattle.vault_write.proofs.Stages.{off_root}
+use Rattle.vault_write.proofs.Placed.{entry_free}
+use Rattle.vault_write.proofs.Seeing.{seen_then}
+use Rattle.vault_write.proofs.Stages.{unstaged_apart}
 
 -- ---- nothing was drawn or given
 
@@ -100,24 +104,6 @@ staging_still (Some q) staged files t u sound apart stages =
     from_to_more (StagingAt files staged) (λ a b. seen b.state q ≡ seen a.state q) t u
     (λ a b is k. seen_as_before (apart_from staged) a.state b.state (sound a is)
     (went_to (IsStagingFolder files staged a.state) _ a b k).others q (apart-from_below staged q apart)) stages
-
--- edits at and below a root leave all else
-view_outside : (root q : Path) (v : View) (edits : List Edit) → below root q ≡ None → ((x : Edit) → Contains edits x → IsTrue (at_or_below root x.at)) → view_after v edits q ≡ v q
-view_outside root q v [] apart inside = refl
-view_outside root q v (e ∷ edits) apart inside =
-    view_outside root q (edited v e) edits apart (λ x among. inside x (Contains-append_right (e ∷ []) edits x among))
-    ∙ off_edit v e q (off_root root e.at q apart (inside e (zero, (let size : length (e ∷ edits) ≡ suc (length edits) = refl in omega (arith, size)), refl)))
-
-unstaged_apart : (work q : Path) → below work q ≡ None → IsTrue (is_unstaged work q)
-unstaged_apart work q apart = ap (λ o. not (is_inside o)) (staged_below work (codes "stage") q apart)
-
--- while edits are done elsewhere
-pub edits_still : (reads : Option Path) (work root : Path) (m : Making) (done more : List Edit) (t u : Option Told) → ReadsElsewhere reads work root → FromTo (HasEdited work root m done more) t u → IsStill reads t u
-edits_still None work root m done more t u apart h = tt
-edits_still (Some q) work root m done more t u apart h =
-    from_to_more (HasEdited work root m done more) (λ a b. seen b.state q ≡ seen a.state q) t u
-    (λ a b is k. k.views q (unstaged_apart work q apart.0)
-    ∙ view_outside root q (seen a.state) done apart.1 (λ x among. k.inside x (subst (λ edits. Contains edits x) (sym k.is) (Contains-append_left done more x among)))) h
 
 pub reads_apart : (reads : Option Path) (work staged : Path) (x : Part) → staged ≡ child (stage_path work) x → ReadsApart reads work → ReadsApart reads staged
 reads_apart None work staged x is apart = tt
@@ -256,91 +242,147 @@ module _ (are : Are) (gain : Gain) (keys : Keys) (text : List ℕ) (staged file 
 
 -- ---- and put in its place
 
-module _ (work : Path) (x : Part) (staged at : Path) (made : View) (files : List (List ℕ)) (t u : Option Told) (is : staged ≡ child (stage_path work) x)
-    (sound : (a : Told) → u ≡ Some a → IsSound a.state) (free : IfSeen t (λ v. ShowsFree v at)) (whole : HasStaged files staged made t u) where
-  renamed_adds : (v : Option Told) (result : Result (Unit {0}) FolderFault) → Changes (Rename staged at) u v result → AddsEdits work (record { at = at; made = made } ∷ []) files t v result
-  renamed_adds v result changes = adds_renamed work x (record { at = at; made = made }) files t u v result
-      (subst (λ p. FromTo (IsStagedWhole files p made) t u) is (whole_staged files staged made t u sound whole)) free (subst (λ p. Changes (Rename p at) u v result) is changes)
+-- it only was staged, or not even that
+pub staged_nothing : (work : Path) (files : List (List ℕ)) (t : Option Told) → OnlyStages work files t t
+staged_nothing work files t = from_to_same (StagingAt files (entry_stage work)) t t refl
+    (λ a. went_nowhere (IsStagingFolder files (entry_stage work) a.state) (λ s k. StagesAt (entry_stage work) a.state s k.call) a (record { others = as_before (apart_from (entry_stage work)) a.state; fronts = fronts_of_none files a.state }))
 
-  pub rename_failed : (v : Option Told) (fault : FolderFault) → Changes (Rename staged at) u v (Err fault) → DoesLast work (record { at = at; made = made }) files t v (Err fault)
-  rename_failed v fault changes root m done before within h = (((renamed_adds v (Err fault) changes) root m done [] before within h).0, tt)
+pub only_stages : (work staged : Path) (files : List (List ℕ)) (t u : Option Told) → staged ≡ entry_stage work → StagesFolder files staged t u → OnlyStages work files t u
+only_stages work staged files t u is stages = subst (λ p. StagesFolder files p t u) is stages
 
-  pub renamed_last : (v w : Option Told) (result : Result (Unit {0}) FolderFault) → Changes (Rename staged at) u v (Ok tt) → Changes Settle v w result → DoesLast work (record { at = at; made = made }) files t w result
-  renamed_last v w result changes settles root m done before within h =
-      finishes work root m before v w result
-      (from_to_more (HasEdited work root m (done ++ record { at = at; made = made } ∷ []) []) (HasEdited work root m m.edits []) before v
-      (λ a b told k. subst (λ edits. HasEdited work root m edits [] a b) (sym (k.is ∙ append-nil (done ++ record { at = at; made = made } ∷ []))) k)
-      ((renamed_adds v (Ok tt) changes) root m done [] before within h).1) settles
+-- so all else is as it was
+pub only_staged : (work : Path) (files : List (List ℕ)) (t u : Option Told) → OnlyStages work files t u → FromTo (λ a b. IsAsBefore (is_unstaged work) a.state b.state) t u
+only_staged work files t u stages =
+    from_to_more (StagingAt files (entry_stage work)) (λ a b. IsAsBefore (is_unstaged work) a.state b.state) t u
+    (λ a b is k. as_before_within (is_unstaged work) (apart_from (entry_stage work)) a.state b.state (unstaged_apart work (codes "f"))
+    (went_to (IsStagingFolder files (entry_stage work) a.state) (λ s e. StagesAt (entry_stage work) a.state s e.call) a b k).others) stages
 
--- it only was staged
-pub only_stages : (work : Path) (x : Part) (staged : Path) (files : List (List ℕ)) (t u : Option Told) → staged ≡ child (stage_path work) x → StagesFolder files staged t u → OnlyStages work files t u
-only_stages work x staged files t u is stages = adds_staging work x [] files t u folder.NoMemory (subst (λ p. StagesFolder files p t u) is stages)
+-- the text of a long name may still come beside it
+pub beside_still : (work side staged : Path) (files : List (List ℕ)) (wants : Bool) (at : Path) (t u : Option Told) → staged ≡ entry_stage work → ((a : Told) → t ≡ Some a → IsSound a.state) → StagesFolder files staged t u
+    → IfSeen t (λ v. GoPlaces v work wants side at) → IfSeen u (λ v. wants ≡ true → MayBeBeside v work side)
+beside_still work side staged files wants at t u is sound stages places =
+    seen_then (StagingAt files (entry_stage work)) (λ v. wants ≡ true → MayBeBeside v work side) t u
+    (λ a b told k is_wanted. still a b (sound a told) k (may_beside ((places (seen a.state) (seen_of t a told)).side_comes is_wanted))) (only_stages work staged files t u is stages)
+  where
+    still : (a b : Told) → IsSound a.state → StagingAt files (entry_stage work) a b → MayBeBeside (seen a.state) work side → MayBeBeside (seen b.state) work side
+    still a b sound_at k may = record {
+      staged = (
+        same (child (stage_path work) (codes "n")) (below-sibling (stage_path work) (codes "f") (codes "n") refl) ∙ may.staged.0,
+        same (parent (child (stage_path work) (codes "n"))) (below-parent (entry_stage work) (child (stage_path work) (codes "n")) (below-sibling (stage_path work) (codes "f") (codes "n") refl)) ∙ may.staged.1,
+      );
+      free = (
+        same side (staged_below (stage_path work) (codes "f") side may.apart) ∙ may.free.0,
+        same (parent side) (below-parent (entry_stage work) side (staged_below (stage_path work) (codes "f") side may.apart)) ∙ may.free.1,
+      );
+      apart = may.apart;
+    }
+      where
+        same : (q : Path) → below (entry_stage work) q ≡ None → seen b.state q ≡ seen a.state q
+        same q none = seen_as_before (apart_from (entry_stage work)) a.state b.state sound_at
+            (went_to (IsStagingFolder files (entry_stage work) a.state) (λ s e. StagesAt (entry_stage work) a.state s e.call) a b k).others q (apart-from_below (entry_stage work) q none)
 
--- ---- answers of calls
+-- the entry that the stage has is renamed, as the last edit, and settled
+module _ (work root : Path) (staged at : Path) (made : View) (m : Making) (done : List Edit) (before t : Option Told) (is : staged ≡ entry_stage work) (free : IfSeen t (λ v. ShowsFree v at))
+    (h : FromTo (HasEdited (Some made) work root m done (record { at = at; made = made } ∷ [])) before t) where
+  renamed_so : (u : Option Told) (result : Result (Unit {0}) FolderFault) → Changes (Rename staged at) t u result
+      → FromTo (Edits work root m) before u × OnOk result (FromTo (HasEdited None work root m (done ++ record { at = at; made = made } ∷ []) []) before u)
+  renamed_so u result changes = entry_renamed work root m done [] (record { at = at; made = made }) before t u result h free (subst (λ p. Changes (Rename p at) t u result) is changes)
 
--- any fault will do
-pub does_err : (work : Path) (e : Edit) (files : List (List ℕ)) (t u : Option Told) (fault : FolderFault) (result : Result (Unit {0}) FolderFault) → IsErr result → DoesLast work e files t u (Err fault) → DoesLast work e files t u result
-does_err work e files t u fault (Err other) err does = does
-does_err work e files t u fault (Ok value) err does = let clash : false ≡ true = err in cc
+  pub rename_failed : (u : Option Told) (fault : FolderFault) → Changes (Rename staged at) t u (Err fault) → FromTo (Edits work root m) before u
+  rename_failed u fault changes = (renamed_so u (Err fault) changes).0
+
+  pub renamed_last : (u w : Option Told) (result : Result (Unit {0}) FolderFault) → Changes (Rename staged at) t u (Ok tt) → Changes Settle u w result → DoesEdits work root m before w result
+  renamed_last u w result changes settles =
+      finishes work root m before u w result
+      (from_to_more (HasEdited None work root m (done ++ record { at = at; made = made } ∷ []) []) (HasEdited None work root m m.edits []) before u
+      (λ a b told k. subst (λ edits. HasEdited None work root m edits [] a b) (sym (k.is ∙ append-nil (done ++ record { at = at; made = made } ∷ []))) k)
+      (renamed_so u (Ok tt) changes).1) settles
 
 -- an entry is something
 something : (inside : Option (List ℕ)) (bytes : List ℕ) → entry_view inside bytes [] ≢ NoEntry
 something None bytes none = cc
 something (Some text) bytes none = cc
 
--- a staged entry may be renamed
-pub entry_allowed : (work : Path) (x : Part) (staged at : Path) (inside : Option (List ℕ)) (bytes : List ℕ) (files : List (List ℕ)) (t u : Option Told) → staged ≡ child (stage_path work) x
-    → ((a : Told) → t ≡ Some a → IsSound a.state) → ((a : Told) → u ≡ Some a → IsSound a.state) → IfSeen t (λ v. MayBePut v work at) → HasStaged files staged (entry_view inside bytes) t u
-    → (b : Told) → u ≡ Some b → Allowed b.state (Rename staged at)
-entry_allowed work x staged at inside bytes files t u is sound sound_now may whole b there =
-    subst (λ p. Allowed b.state (Rename p at)) (sym is)
-    (renames_allowed work at x files (entry_view inside bytes) t u sound may (something inside bytes)
-    (subst (λ p. FromTo (IsStagedWhole files p (entry_view inside bytes)) t u) is (whole_staged files staged (entry_view inside bytes) t u sound_now whole)) b there)
-
 -- nothing was staged
-pub entry_none : {keys : Keys} {work at : Path} {inside : Option (List ℕ)} {coming : Option Coming} {stream : Option ByteStream} {t : Option Told} {result : Result (Unit {0}) PutFault} (fault : PutFault)
-    → IsErrAnd result (λ e. e ≡ fault) → StopsBy keys (untaken coming) fault → PlacesEntry keys work at inside coming coming stream stream t t result
-entry_none {keys} {work} {at} {inside} {coming} {stream} {t} {result} fault by_fault stops =
-    at_fault (PlacesEntry keys work at inside coming coming stream stream t t) result fault by_fault (record {
+pub entry_none : {keys : Keys} {work root : Path} {inside : Option (List ℕ)} {making : List ℕ → Making} {coming : Option Coming} {stream : Option ByteStream} {t : Option Told} {result : Result (Unit {0}) PutFault} (fault : PutFault)
+    → IsErrAnd result (λ e. e ≡ fault) → StopsBy keys (untaken coming) fault → PlacesEntry keys work root inside making coming coming stream stream t t result
+entry_none {keys} {work} {root} {inside} {making} {coming} {stream} {t} {result} fault by_fault stops =
+    at_fault (PlacesEntry keys work root inside making coming coming stream stream t t) result fault by_fault (record {
       writing = untaken coming;
       enough = omega arith;
       takes = takes_none keys coming stream fault;
-      ends = (stops, inl (adds_nothing work [] (entry_files inside (file_of keys (untaken coming))) t folder.NoMemory));
+      ends = (stops, inl (staged_nothing work (entry_files inside (file_of keys (untaken coming))) t));
     })
 
 -- it only was staged, or not whole
-pub entry_stopped : {keys : Keys} {work at staged : Path} {inside : Option (List ℕ)} {coming left : Option Coming} {stream stream' : Option ByteStream} {t u : Option Told} {result : Result (Unit {0}) PutFault} (x : Part) (fault : PutFault)
-    → IsErrAnd result (λ e. e ≡ fault) → staged ≡ child (stage_path work) x → StagesEntry keys inside staged coming left stream stream' t u (Err fault) → PlacesEntry keys work at inside coming left stream stream' t u result
-entry_stopped {keys} {work} {at} {staged} {inside} {coming} {left} {stream} {stream'} {t} {u} {result} x fault by_fault is k =
-    at_fault (PlacesEntry keys work at inside coming left stream stream' t u) result fault by_fault (record {
+pub entry_stopped : {keys : Keys} {work root staged : Path} {inside : Option (List ℕ)} {making : List ℕ → Making} {coming left : Option Coming} {stream stream' : Option ByteStream} {t u : Option Told} {result : Result (Unit {0}) PutFault} (fault : PutFault)
+    → IsErrAnd result (λ e. e ≡ fault) → staged ≡ entry_stage work → StagesEntry keys inside staged coming left stream stream' t u (Err fault) → PlacesEntry keys work root inside making coming left stream stream' t u result
+entry_stopped {keys} {work} {root} {staged} {inside} {making} {coming} {left} {stream} {stream'} {t} {u} {result} fault by_fault is k =
+    at_fault (PlacesEntry keys work root inside making coming left stream stream' t u) result fault by_fault (record {
       writing = k.writing;
       enough = k.enough;
       takes = k.takes;
-      ends = (k.ends, inl (only_stages work x staged (entry_files inside (file_of keys k.writing)) t u is k.stages));
+      ends = (k.ends, inl (only_stages work staged (entry_files inside (file_of keys k.writing)) t u is k.stages));
     })
 
-module _ {keys : Keys} {work at staged : Path} {inside : Option (List ℕ)} {coming left : Option Coming} {stream stream' : Option ByteStream} {t u : Option Told} (w : Option Told)
-    (is : staged ≡ child (stage_path work) (codes "f")) (may : IfSeen t (λ v. MayBePut v work at)) (k : StagesEntry keys inside staged coming left stream stream' t u (Ok tt)) where
-  published_so : (result : Result (Unit {0}) FolderFault) → PublishesEntry staged at u w result → DoesLast work (entry_edit at inside (file_of keys k.writing)) (entry_files inside (file_of keys k.writing)) t w result
-  published_so result publishes = publishes work (entry_view inside (file_of keys k.writing)) (entry_files inside (file_of keys k.writing)) t is (λ v seen_so. (may v seen_so).free) k.ends.1
+-- under the keys of a vault
+pub staged_by : {one keys : Keys} {inside : Option (List ℕ)} {staged : Path} {coming left : Option Coming} {stream stream' : Option ByteStream} {t u : Option Told} {result : Result (Unit {0}) PutFault}
+    → one ≡ keys → StagesEntry one inside staged coming left stream stream' t u result → StagesEntry keys inside staged coming left stream stream' t u result
+staged_by {one} {keys} {inside} {staged} {coming} {left} {stream} {stream'} {t} {u} {result} same k = subst (λ x. StagesEntry x inside staged coming left stream stream' t u result) same k
 
-  pub entry_failed : {result : Result (Unit {0}) PutFault} (fault : FolderFault) → IsErrAnd result (λ e. e ≡ of_folder fault) → PublishesEntry staged at u w (Err fault) → PlacesEntry keys work at inside coming left stream stream' t w result
-  entry_failed {result} fault by_fault publishes =
-      at_fault (PlacesEntry keys work at inside coming left stream stream' t w) result (of_folder fault) by_fault (record {
+module _ (work root at side : Path) (beside : Option (List ℕ)) (wants : Bool) {keys : Keys} {staged : Path} {inside : Option (List ℕ)} {coming left : Option Coming} {stream stream' : Option ByteStream} {t u : Option Told}
+    (is : staged ≡ entry_stage work) (sound : (a : Told) → u ≡ Some a → IsSound a.state) (places : IfSeen t (λ v. GoPlaces v work wants side at))
+    (begins : (w : Writing) → HasBegun work root (entry_making wants side at beside inside (file_of keys w)) t) (k : StagesEntry keys inside staged coming left stream stream' t u (Ok tt)) where
+  abbrev made : View
+  made = entry_view inside (file_of keys k.writing)
+
+  abbrev making : Making
+  making = entry_making wants side at beside inside (file_of keys k.writing)
+
+  abbrev Placed : Option Told → Result (Unit {0}) PutFault → Type 0
+  Placed w result = PlacesEntry keys work root inside (entry_making wants side at beside inside) coming left stream stream' t w result
+
+  held : FromTo (HasEdited (Some made) work root making [] (side_edits wants side beside ++ entry_edit at inside (file_of keys k.writing) ∷ [])) t u
+  held = adds_entry work root making [] (side_edits wants side beside ++ entry_edit at inside (file_of keys k.writing) ∷ []) made (entry_files inside (file_of keys k.writing)) t t u
+      (λ file among. Contains-append_right (full_texts beside) (entry_files inside (file_of keys k.writing)) file among) (begins k.writing)
+      (subst (λ p. FromTo (IsStagedWhole (entry_files inside (file_of keys k.writing)) p made) t u) is (whole_staged (entry_files inside (file_of keys k.writing)) staged made t u sound k.ends.1))
+
+  abbrev AddsSide : Option Told → Result (Unit {0}) FolderFault → Type 0
+  AddsSide v result = AddsEdits (Some made) work (side_edits wants side beside) (full_texts beside) u v result
+
+  sides : (v : Option Told) (result : Result (Unit {0}) FolderFault) → AddsSide v result
+      → FromTo (Edits work root making) t v × OnOk result (FromTo (HasEdited (Some made) work root making (side_edits wants side beside) (entry_edit at inside (file_of keys k.writing) ∷ [])) t v)
+  sides v result adds = adds root making [] (entry_edit at inside (file_of keys k.writing) ∷ []) t (λ file among. Contains-append_left (full_texts beside) (entry_files inside (file_of keys k.writing)) file among) held
+
+  fails : (w : Option Told) (fault : FolderFault) (result : Result (Unit {0}) PutFault) → IsErrAnd result (λ e. e ≡ of_folder fault) → FromTo (Edits work root making) t w → Placed w result
+  fails w fault result by_fault went =
+      at_fault (Placed w) result (of_folder fault) by_fault (record {
         writing = k.writing;
         enough = k.enough;
         takes = takes_then keys k.writing coming left stream stream' (of_folder fault) k.takes;
-        ends = (stops_folder keys k.writing fault, inr (fault, refl, k.ends.0, published_so (Err fault) publishes));
+        ends = (stops_folder keys k.writing fault, inr (fault, refl, k.ends.0, (went, tt)));
       })
 
-  pub entry_placed : PublishesEntry staged at u w (Ok tt) → PlacesEntry keys work at inside coming left stream stream' t w (Ok tt)
-  entry_placed publishes = record { writing = k.writing; enough = k.enough; takes = k.takes; ends = (k.ends.0, published_so (Ok tt) publishes) }
+  pub side_failed : (v : Option Told) (fault : FolderFault) (result : Result (Unit {0}) PutFault) → IsErrAnd result (λ e. e ≡ of_folder fault) → AddsSide v (Err fault) → Placed v result
+  side_failed v fault result by_fault adds = fails v fault result by_fault (sides v (Err fault) adds).0
 
--- what is told where the folder told something else at first
-pub placed_still : (keys : Keys) (work at : Path) (inside : Option (List ℕ)) (coming coming' left left' : Option Coming) (stream stream' : Option ByteStream) (t u : Option Told) (result : Result (Unit {0}) PutFault)
-    → coming ≡ coming' → left ≡ left' → PlacesEntry keys work at inside coming left stream stream' t u result → PlacesEntry keys work at inside coming' left' stream stream' t u result
-placed_still keys work at inside coming coming' left left' stream stream' t u result same same_left k =
-    subst (λ c. PlacesEntry keys work at inside c left' stream stream' t u result) same (subst (λ l. PlacesEntry keys work at inside coming l stream stream' t u result) same_left k)
+  module _ (v : Option Told) (adds : AddsSide v (Ok tt)) where
+    free_yet : IfSeen v (λ w. ShowsFree w at)
+    free_yet = entry_free (Some made) work root making wants side at beside (entry_edit at inside (file_of keys k.writing) ∷ []) t v (sides v (Ok tt) adds).1 places
+
+    pub entry_allowed : (b : Told) → v ≡ Some b → Allowed b.state (Rename staged at)
+    entry_allowed b there = subst (λ p. Allowed b.state (Rename p at)) (sym is)
+        (held_allowed work root making (side_edits wants side beside) (entry_edit at inside (file_of keys k.writing)) t v (something inside (file_of keys k.writing)) (sides v (Ok tt) adds).1
+        (λ w seen_so. free_yet w seen_so) (λ x seen_so. (places x seen_so).entry.apart) b there)
+
+    published_so : (w : Option Told) (result : Result (Unit {0}) FolderFault) → PublishesEntry staged at v w result → DoesEdits work root making t w result
+    published_so w result publishes = publishes work root made making (side_edits wants side beside) t is free_yet (sides v (Ok tt) adds).1
+
+    pub entry_failed : (w : Option Told) (fault : FolderFault) (result : Result (Unit {0}) PutFault) → IsErrAnd result (λ e. e ≡ of_folder fault) → PublishesEntry staged at v w (Err fault) → Placed w result
+    entry_failed w fault result by_fault publishes = fails w fault result by_fault (published_so w (Err fault) publishes).0
+
+    pub entry_placed : (w : Option Told) → PublishesEntry staged at v w (Ok tt) → Placed w (Ok tt)
+    entry_placed w publishes = record { writing = k.writing; enough = k.enough; takes = k.takes; ends = (k.ends.0, published_so w (Ok tt) publishes) }
 
 pub still_ready : (reads : Option Path) (staged : Path) (f : Found → Option Coming) (t s : Option Told) → ((a : Told) → t ≡ Some a → IsSound a.state) → ReadsApart reads staged → StagesFolder [] staged t s
     → IsReady reads t f → IsReady reads s f

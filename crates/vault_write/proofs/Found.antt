@@ -29,7 +29,7 @@ use Rattle.item_making.specs.declared.fault.PutFault.{PutFault}
 use Rattle.item_making.specs.declared.fault.PutFault.TheVariants as puts
 use Rattle.item_making.specs.Ending.{Ending}
 use Rattle.item_making.specs.Making.{Placing}
-use Rattle.vault_write.specs.Refusing.{Answers}
+use Rattle.vault_write.specs.Refusing.{Answers, MayDraw}
 use Rattle.vault_write.specs.Slots.{IsSlot, IsTakenAt, IsSideTaken, RefusesItem, placing}
 
 abbrev pub Enters : Type 0
@@ -104,6 +104,18 @@ or_taken p drawn ending u fault at Taken answers (inl failed) = subst (λ x. Ans
 or_taken p drawn ending u fault at Taken answers (inr (inl memory)) = subst (λ x. Answers p drawn ending u (Err x)) (sym memory) tt
 or_taken p drawn ending u fault at Taken answers (inr (inr (is, taken))) = subst (λ x. Answers p drawn ending u (Err x)) (sym is) (answers taken)
 
+-- ---- its tests are passed that need no drawn byte
+
+pub cm_draws : (root : Path) (vault : Vault) → kind_of vault ≡ kind.Cryptomator → (work : Path) (front : plain.Path) (name : List ℕ) (item : NewItem) (t : Option Told) (at side : Path) (full : Option (List ℕ))
+    → IfSeen t (λ v. IsSlot (record { root = root; vault = vault }) (format_of vault) front name (under root v) at side full)
+    → IfSeen t (λ v. MayDraw (placing (record { root = root; vault = vault }) work front name item) (under root v))
+cm_draws root (Cryptomator cm) is work front name item t at side full slot v s = record {
+  dir = (slot v s).dir;
+  there = record { entered = (slot v s).entered; allowed = (slot v s).allowed };
+  free = ap (taken_at (entry_at (cm_format cm) (slot v s).dir name)) (slot v s).free;
+}
+cm_draws root (Gocryptfs keys) is work front name item t at side full slot v s = let clash : kind.Gocryptfs ≡ kind.Cryptomator = is in cc
+
 -- ---- whether or not the folder tells its state
 
 module _ (enters : Enters) (vault : OpenedVault) (front : plain.Path) (name : List ℕ) (place : DirPlace) (t : Option Told)
@@ -127,6 +139,7 @@ module _ (enters : Enters) (vault : OpenedVault) (front : plain.Path) (name : Li
           there = record { entered = enters_there enters vault front name place (under vault.root v) (found v s) at side full allowed at_is side_is full_is; allowed = allowed };
           is = entry_taken vault.vault (under vault.root v) (found v s).dir name item [] (λ none. there v s (ap v (entry_at_is v s) ∙ none));
         },
+        inl refl,
       )) is_taken
 
 -- ---- a long name's file, in gocryptfs
@@ -161,6 +174,16 @@ module _ (keys : GoKeys) (root : Path) (front : plain.Path) (name : List ℕ) (v
   pub go_side : taken_unless side (v side) full ≡ Some side → go_taken (under root v) slot.dir ((go_format keys).stored slot.dir.key name) ≡ Some side_at
   go_side = go_taken_by (Some side)
 
+pub go_draws : (root : Path) (vault : Vault) → kind_of vault ≡ kind.Gocryptfs → (work : Path) (front : plain.Path) (name : List ℕ) (item : NewItem) (t : Option Told) (at side : Path) (full : Option (List ℕ))
+    → IfSeen t (λ v. IsSlot (record { root = root; vault = vault }) (format_of vault) front name (under root v) at side full) → IfSeen t (λ v. taken_unless side (v side) full ≡ None)
+    → IfSeen t (λ v. MayDraw (placing (record { root = root; vault = vault }) work front name item) (under root v))
+go_draws root (Gocryptfs keys) is work front name item t at side full slot side_free v s = record {
+  dir = (slot v s).dir;
+  there = record { entered = (slot v s).entered; allowed = (slot v s).allowed };
+  free = go_free keys root front name v at side full (slot v s) (side_free v s);
+}
+go_draws root (Cryptomator cm) is work front name item t at side full slot side_free v s = let clash : kind.Cryptomator ≡ kind.Gocryptfs = is in cc
+
 go_item_taken : (keys : GoKeys) (u : View) (dir : Directory) (name : List ℕ) (item : NewItem) (place : Path) → go_taken u dir ((go_format keys).stored dir.key name) ≡ Some place
     → taken (go_format keys) u dir name item [] ≡ Some place
 go_item_taken keys u dir name NewDirectory place e = e
@@ -178,6 +201,7 @@ module _ (keys : GoKeys) (root : Path) (front : plain.Path) (name : List ℕ) (t
           there = record { entered = (slot v s).entered; allowed = (slot v s).allowed };
           is = go_item_taken keys (under root v) (slot v s).dir name item (side_at keys root front name v at side full (slot v s)) (go_side keys root front name v at side full (slot v s) (there v s));
         },
+        inl refl,
       )) is_taken
 
 pub side_refused : (root : Path) (vault : Vault) → kind_of vault ≡ kind.Gocryptfs → (front : plain.Path) (name : List ℕ) (t : Option Told) (at side : Path) (full : Option (List ℕ))

@@ -82,7 +82,7 @@ go_places enters folders keys root work front name v at side full wants ready ap
   entry = entry_comes enters folders (record { root = root; vault = Gocryptfs keys }) work front name v at side full ready apart beside slot;
   side_comes = λ is_wanted. may_come_in enters folders (record { root = root; vault = Gocryptfs keys }) work front name v at side full ready apart beside slot
       side (full_name ((go_format keys).stored slot.dir.key name).name) slot.side_is (wanted_free (v side) full (sym wants_is ∙ is_wanted));
-  others = ap (λ q. below q at) slot.side_is
+  others = λ is_wanted. ap (λ q. below q at) slot.side_is
       ∙ ap (below (root ++ child slot.dir.folder (full_name ((go_format keys).stored slot.dir.key name).name))) slot.at_is
       ∙ below-both root (child slot.dir.folder (full_name ((go_format keys).stored slot.dir.key name).name)) (entry_at (go_format keys) slot.dir name)
       ∙ below-sibling slot.dir.folder (full_name ((go_format keys).stored slot.dir.key name).name) ((go_format keys).stored slot.dir.key name).name

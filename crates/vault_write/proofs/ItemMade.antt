@@ -1,5 +1,5 @@
 -- What a call that made an item's edits promises of the vault's trees, and of what opens.
-use Rattle.std.proofs.Common.{arith, ◌≡◌, ◌≢◌, ◌⊎◌, ℕ, ◌≤◌, List, [], ◌∷◌, ◌++◌, length, Option, Some, None, Result, Ok, Err, refl, sym, ap, ◌∙◌, inl, inr, subst, IsTrue, is_some}
+use Rattle.std.proofs.Common.{arith, Bool, ◌≡◌, ◌≢◌, ◌⊎◌, ℕ, ◌≤◌, List, [], ◌∷◌, ◌++◌, length, Option, Some, None, Result, Ok, Err, refl, sym, ap, ◌∙◌, inl, inr, subst, append-nil, IsTrue, is_some}
 use Rattle.std.proofs.Math.Path.{fun_ext}
 use Rattle.folder_spec.specs.declared.FolderFault.{FolderFault}
 use Rattle.folder_spec.specs.Path.{Path, below}
@@ -7,7 +7,7 @@ use Rattle.folder_spec.specs.State.{State}
 use Rattle.folder_spec.specs.Edit.{Edit, edited, edit_under, edits_under, view_after, PublishesIn, HasSettledIn}
 use Rattle.folder_spec.specs.Event.{Told, FromTo}
 use Rattle.folder_spec.specs.Moments.{Moments, Went}
-use Rattle.folder_spec.specs.Region.{at_or_below}
+use Rattle.folder_spec.specs.Region.{IsAsBefore, at_or_below}
 use Rattle.folder_spec.specs.Seen.{IfSeen, seen, under}
 use Rattle.folder_spec.specs.View.{View}
 use Rattle.folder_spec.proofs.Paths.{below-append, child-injective, child-last, child-not_base}
@@ -32,10 +32,10 @@ use Rattle.item_making.specs.declared.fault.PutFault.{PutFault}
 use Rattle.item_making.specs.declared.fault.PutFault.TheVariants as puts
 use Rattle.work_folder.specs.Entering.{IsReady}
 use Rattle.vault_faults.specs.declared.fault.FindFault.TheVariants as finds
-use Rattle.vault_write.specs.Calls.{AnswersBy, AnswersRoot, How, InPlace, IsOfMaking, MakesAt, MakesOne, New, making_by}
+use Rattle.vault_write.specs.Calls.{AnswersBy, AnswersRoot, How, InPlace, IsOfMaking, IsUnpublished, MakesAt, MakesOne, New, making_by}
 use Rattle.vault_write.specs.Editing.{IsEditing, SeesSome, Edits, HasFinished}
 use Rattle.item_making.specs.Making.{Placing, Making, format, path_of, new_item, is_unstaged, is_elsewhere, StagesOrPlaces}
-use Rattle.item_making.specs.Placing.{IsMaking, ShowsNewTree, making_at, EndsAs}
+use Rattle.item_making.specs.Placing.{IsMaking, ShowsNewTree, making_at, EndsAs, OpensItem}
 use Rattle.vault_write.specs.Refusing.{HasTaken, Answers}
 use Rattle.vault_write.specs.Showing.{MakeItem, MakeItemAt, EditsShowTrees, SettledEditsShowTrees}
 use Rattle.vault_write.specs.Slots.{placing}
@@ -47,12 +47,11 @@ use Rattle.vault_write.proofs.TreesShown.{old_alone}
 
 -- ---- what opens after some edits
 
-fronts_open : (f : Format) (v w : View) (done more : List Edit) (at : plain.Path) (item : Opened) → OpensAs f v w → ComesAlone f v w (done ++ more) at item
-    → OpensAs f v (view_after w done) ⊎ OpensWith f v (view_after w done) at item
-fronts_open f v w [] more at item as_before alone = inl as_before
-fronts_open f v w (e ∷ []) [] at item as_before alone = inr alone
-fronts_open f v w (e ∷ []) (next ∷ more) at item as_before alone = inl alone.0
-fronts_open f v w (e ∷ next ∷ done) more at item as_before alone = fronts_open f v (edited w e) (next ∷ done) more at item alone.0 alone.1
+-- until the last of some edits, what opens stays
+pub fronts_keep : (f : Format) (v w : View) (done : List Edit) (next : Edit) (more : List Edit) (at : plain.Path) (item : Opened) → OpensAs f v w → ComesAtLast f v w (done ++ next ∷ more) at item → OpensAs f v (view_after w done)
+fronts_keep f v w [] next more at item same comes = same
+fronts_keep f v w (x ∷ []) next more at item same comes = comes.0
+fronts_keep f v w (x ∷ y ∷ done) next more at item same comes = fronts_keep f v (edited w x) (y ∷ done) next more at item comes.0 comes.1
 
 last_opens : (f : Format) (v w : View) (edits : List Edit) (at : plain.Path) (item : Opened) → ComesAtLast f v w edits at item → opened f (view_after w edits) at ≡ item
 last_opens f v w [] at item comes = absurd comes
@@ -103,8 +102,8 @@ split root [] (d ∷ done) more e = cc
 abbrev pub RootsShow : Type 0
 RootsShow = (root : Path) (v : View) (edits : List Edit) → under root (view_after v (edits_under root edits)) ≡ view_after (under root v) edits
 
-abbrev OldOrNewOpens : Placing → View → View → Type 0
-OldOrNewOpens p u v = IsOrderly (format p) u → OpensAs (format p) u v ⊎ OpensWith (format p) u v (path_of p) (opens_as p.item)
+abbrev pub OldOrNewOpens : Placing → View → View → Type 0
+OldOrNewOpens p u v = OpensAs (format p) u v ⊎ OpensItem p u v
 
 -- a folder's fault comes once the making has begun, and is no word of zeros
 pub folder_making : (fault : FolderFault) → IsOfMaking (of_folder fault)
@@ -116,6 +115,16 @@ pub folder_drew : (fault : FolderFault) → of_folder fault ≢ puts.ZeroRandom
 folder_drew folder.Failed = λ same. cc same
 folder_drew folder.Refused = λ same. cc same
 folder_drew folder.NoMemory = λ same. cc same
+
+folder_published : (fault : FolderFault) (region : Path → Bool) (t w : Option Told) → IsUnpublished region t w (Err (of_folder fault))
+folder_published folder.Failed region t w = tt
+folder_published folder.Refused region t w = tt
+folder_published folder.NoMemory region t w = tt
+
+unpublished_at : (fault : PutFault) (region : Path → Bool) (t w : Option Told) → FromTo (λ a b. IsAsBefore region a.state b.state) t w → IsUnpublished region t w (Err fault)
+unpublished_at puts.Failed region t w same = tt
+unpublished_at puts.NoMemory region t w same = tt
+unpublished_at fault region t w same = same
 
 abbrev failing : PutFault → Result (Unit {0}) PutFault
 failing fault = Err fault
@@ -131,8 +140,8 @@ ends_failed_by p folder.NoMemory u v opens = opens
 
 -- where what opens stayed
 pub ends_stopped : (p : Placing) (fault : PutFault) (u v : View) → OpensAs (format p) u v → EndsAs p u v (Err fault)
-ends_stopped p puts.Failed u v same = λ orderly. inl same
-ends_stopped p puts.NoMemory u v same = λ orderly. inl same
+ends_stopped p puts.Failed u v same = inl same
+ends_stopped p puts.NoMemory u v same = inl same
 ends_stopped p fault u v same = same
 
 -- ---- whether or not the folder tells its state
@@ -162,6 +171,7 @@ module _ (how : How) (p : Placing) (drawn : List ℕ) (m : Making) (t w : Option
     };
     answer = answer;
     tested = tt;
+    unpublished = tt;
     zeros = λ clash. cc clash;
     accepted = λ other. none;
   }
@@ -178,6 +188,7 @@ module _ (how : How) (p : Placing) (drawn : List ℕ) (m : Making) (t w : Option
     };
     answer = answer;
     tested = inl (folder_making fault);
+    unpublished = folder_published fault (is_unstaged p.work) t w;
     zeros = λ same. absurd (folder_drew fault (one_error same));
     accepted = λ other. none;
   }
@@ -187,6 +198,7 @@ module _ (how : How) (p : Placing) (drawn : List ℕ) (m : Making) (t w : Option
 pub record MayRefuse (p : Placing) (drawn : List ℕ) (t w : Option Told) (fault : PutFault) : Type 0 where
   pub few : length drawn ≤ draws (format p) p.item
   pub tested : IsOfMaking fault ⊎ (w ≡ t)
+  pub unpublished : FromTo (λ a b. IsAsBefore (is_unstaged p.work) a.state b.state) t w
   pub zeros : fault ≡ puts.ZeroRandom → DrewZeros (format p).content drawn
   pub accepted : fault ≢ puts.ZeroRandom → DrewNoZeros (format p).content drawn
 
@@ -207,6 +219,7 @@ one_stopped how p ending drawn R t w fault may went stays h answer = record {
   };
   answer = answer;
   tested = may.tested;
+  unpublished = unpublished_at fault (is_unstaged p.work) t w may.unpublished;
   zeros = λ same. may.zeros (one_error same);
   accepted = λ other. may.accepted (λ same. other (ap failing same));
 }
@@ -215,7 +228,13 @@ one_stopped how p ending drawn R t w fault may went stays h answer = record {
 pub one_refused : (how : How) (p : Placing) (ending : Ending) (drawn : List ℕ) (t : Option Told) (fault : PutFault) → length drawn ≤ draws (format p) p.item → (fault ≡ puts.ZeroRandom → DrewZeros (format p).content drawn) → (fault ≢ puts.ZeroRandom → DrewNoZeros (format p).content drawn)
     → IfSeen t (λ v. AnswersBy how p drawn ending (under p.vault.root v) (Err fault)) → MakesOne how p ending drawn t t (Err fault)
 one_refused how p ending drawn t fault few zeros accepted answer =
-    one_stopped how p ending drawn (λ a b. b ≡ a) t t fault (record { few = few; tested = inr refl; zeros = zeros; accepted = accepted }) (λ a b is same. subst (Makes a) (sym same) (nowhere a))
+    one_stopped how p ending drawn (λ a b. b ≡ a) t t fault (record {
+      few = few;
+      tested = inr refl;
+      unpublished = from_to_same (λ a b. IsAsBefore (is_unstaged p.work) a.state b.state) t t refl (λ a. as_before (λ q. is_unstaged p.work q) a.state);
+      zeros = zeros;
+      accepted = accepted;
+    }) (λ a b is same. subst (Makes a) (sym same) (nowhere a))
     (λ a b is same path. ap (λ (c : Told). opened (format p) (under p.vault.root (seen c.state)) path) same) (from_to_same (λ a b. b ≡ a) t t refl (λ a. refl)) answer
   where
     Makes : Told → Told → Type 0
@@ -266,29 +285,36 @@ module _ (shows : EditsShowTrees) (settles : SettledEditsShowTrees) (roots : Roo
       → under p.vault.root (seen b.state) ≡ view_after (under p.vault.root (seen a.state)) first
   first_seen first done is views = root_seen done views ∙ ap (λ es. under p.vault.root (view_after (seen a.state) es)) is ∙ roots p.vault.root (seen a.state) first
 
+  opens_item : under p.vault.root (seen b.state) ≡ view_after (under p.vault.root (seen a.state)) begun.edits → OpensItem p (under p.vault.root (seen a.state)) (under p.vault.root (seen b.state))
+  opens_item now = (
+    ap (λ w. opened (format p) w (path_of p)) now ∙ last_opens (format p) (under p.vault.root (seen a.state)) (under p.vault.root (seen a.state)) begun.edits (path_of p) (opens_as p.item) begun.last,
+    λ orderly. subst (λ w. OpensWith (format p) (under p.vault.root (seen a.state)) w (path_of p) (opens_as p.item)) (sym now)
+        (all_opens (format p) (under p.vault.root (seen a.state)) (under p.vault.root (seen a.state)) begun.edits (path_of p) (opens_as p.item) (begun.alone orderly)),
+    λ clean orderly.
+        let made : MakeItem (format p) (under p.vault.root (seen a.state)) (path_of p) (opens_as p.item) begun.edits = begun.item (record { clean = clean; orderly = orderly }) in
+        subst (λ w. StaysGood (format p) (under p.vault.root (seen a.state)) w) (sym now)
+        (all_stay (format p) (under p.vault.root (seen a.state)) (under p.vault.root (seen a.state)) begun.edits (path_of p) (opens_as p.item) made.alone made.clean made.tidy made.vault),
+    subst (λ w. KeepsEntered (format p) (under p.vault.root (seen a.state)) w) (sym now)
+        (last_entered (format p) (under p.vault.root (seen a.state)) (under p.vault.root (seen a.state)) begun.edits (path_of p) (opens_as p.item) begun.last),
+  )
+
   ends_ok : HasFinished p.work p.vault.root m a b → EndsAs p (under p.vault.root (seen a.state)) (under p.vault.root (seen b.state)) (Ok tt)
-  ends_ok h =
-      let now : under p.vault.root (seen b.state) ≡ view_after (under p.vault.root (seen a.state)) begun.edits = first_seen begun.edits m.edits begun.are h.views in (
-        ap (λ w. opened (format p) w (path_of p)) now ∙ last_opens (format p) (under p.vault.root (seen a.state)) (under p.vault.root (seen a.state)) begun.edits (path_of p) (opens_as p.item) begun.last,
-        λ orderly. subst (λ w. OpensWith (format p) (under p.vault.root (seen a.state)) w (path_of p) (opens_as p.item)) (sym now)
-            (all_opens (format p) (under p.vault.root (seen a.state)) (under p.vault.root (seen a.state)) begun.edits (path_of p) (opens_as p.item) (begun.alone orderly)),
-        λ clean orderly.
-            let made : MakeItem (format p) (under p.vault.root (seen a.state)) (path_of p) (opens_as p.item) begun.edits = begun.item (record { clean = clean; orderly = orderly }) in
-            subst (λ w. StaysGood (format p) (under p.vault.root (seen a.state)) w) (sym now)
-            (all_stay (format p) (under p.vault.root (seen a.state)) (under p.vault.root (seen a.state)) begun.edits (path_of p) (opens_as p.item) made.alone made.clean made.tidy made.vault),
-        subst (λ w. KeepsEntered (format p) (under p.vault.root (seen a.state)) w) (sym now)
-            (last_entered (format p) (under p.vault.root (seen a.state)) (under p.vault.root (seen a.state)) begun.edits (path_of p) (opens_as p.item) begun.last),
-      )
+  ends_ok h = opens_item (first_seen begun.edits m.edits begun.are h.views)
 
   -- after a failure some of the begun.edits are seen
   ends_failed : Edits p.work p.vault.root m a b → OldOrNewOpens p (under p.vault.root (seen a.state)) (under p.vault.root (seen b.state))
-  ends_failed went orderly =
+  ends_failed went =
       let now : SeesSome p.work m.edits a.state b.state = (went_to (IsEditing p.work p.vault.root m a.state) (λ s e. StagesOrPlaces p.work m s e.call) a b went).sees in
       let parts : IsSplit p.vault.root begun.edits now.done now.more = split p.vault.root begun.edits now.done now.more (sym begun.are ∙ now.is) in
-      let is : under p.vault.root (seen b.state) ≡ view_after (under p.vault.root (seen a.state)) parts.first = first_seen parts.first now.done parts.done_is now.views in
-      subst (λ w. OpensAs (format p) (under p.vault.root (seen a.state)) w ⊎ OpensWith (format p) (under p.vault.root (seen a.state)) w (path_of p) (opens_as p.item)) (sym is)
-      (fronts_open (format p) (under p.vault.root (seen a.state)) (under p.vault.root (seen a.state)) parts.first parts.rest (path_of p) (opens_as p.item) (λ path. refl)
-      (subst (λ es. ComesAlone (format p) (under p.vault.root (seen a.state)) (under p.vault.root (seen a.state)) es (path_of p) (opens_as p.item)) parts.is (begun.alone orderly)))
+      by_rest parts.first parts.rest parts.is (first_seen parts.first now.done parts.done_is now.views)
+    where
+      by_rest : (first rest : List Edit) → begun.edits ≡ first ++ rest → under p.vault.root (seen b.state) ≡ view_after (under p.vault.root (seen a.state)) first
+          → OldOrNewOpens p (under p.vault.root (seen a.state)) (under p.vault.root (seen b.state))
+      by_rest first [] is now = inr (opens_item (now ∙ ap (view_after (under p.vault.root (seen a.state))) (sym (is ∙ append-nil first))))
+      by_rest first (next ∷ more) is now =
+          inl (subst (λ w. OpensAs (format p) (under p.vault.root (seen a.state)) w) (sym now)
+          (fronts_keep (format p) (under p.vault.root (seen a.state)) (under p.vault.root (seen a.state)) first next more (path_of p) (opens_as p.item) (λ path. refl)
+          (subst (λ es. ComesAtLast (format p) (under p.vault.root (seen a.state)) (under p.vault.root (seen a.state)) es (path_of p) (opens_as p.item)) is begun.last)))
 
 module _ (shows : EditsShowTrees) (settles : SettledEditsShowTrees) (roots : RootsShow) (p : Placing) (drawn : List ℕ) (m : Making) (t w : Option Told)
     (begun : (a : Told) → t ≡ Some a → IsBegun p drawn m a) (size : length drawn ≡ draws (format p) p.item) where

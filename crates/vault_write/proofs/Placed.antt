@@ -39,10 +39,10 @@ unstaged_at : (work q : Path) → below (stage_path work) q ≡ None → IsTrue 
 unstaged_at work q none = ap (λ o. not (is_inside o)) none
 
 -- so a place where something may come stays so
-pub may_still : (work root at : Path) (m : Making) (done more : List Edit) (t u : Option Told) → FromTo (HasEdited work root m done more) t u
+pub may_still : (work root at : Path) (m : Making) (done more : List Edit) (t u : Option Told) → FromTo (HasEdited None work root m done more) t u
     → IfSeen t (λ v. MayBePut v work at × AreOff done at) → IfSeen u (λ w. MayBePut w work at)
 may_still work root at m done more t u h may =
-    seen_then (HasEdited work root m done more) (λ w. MayBePut w work at) t u
+    seen_then (HasEdited None work root m done more) (λ w. MayBePut w work at) t u
     (λ a b is k.
     let there : MayBePut (seen a.state) work at × AreOff done at = may (seen a.state) (seen_of t a is) in
     let kept : (q : Path) → AreOff done q → below (stage_path work) q ≡ None → seen b.state q ≡ seen a.state q =
@@ -55,15 +55,29 @@ may_still work root at m done more t u h may =
 
 -- ---- a directory of gocryptfs
 
-pub side_off : (wants : Bool) (side at : Path) (full : Option (List ℕ)) → below side at ≡ None → AreOff (side_edits wants side full) at
+pub side_off : (wants : Bool) (side at : Path) (full : Option (List ℕ)) → (wants ≡ true → below side at ≡ None) → AreOff (side_edits wants side full) at
 side_off false side at full apart = record {}
 side_off true side at None apart = record {}
-side_off true side at (Some text) apart = (apart, record {})
+side_off true side at (Some text) apart = (apart refl, record {})
 
 pub entry_may : (work root : Path) (m : Making) (wants : Bool) (side at : Path) (full : Option (List ℕ)) (more : List Edit) (t u : Option Told)
-    → FromTo (HasEdited work root m (side_edits wants side full) more) t u → IfSeen t (λ v. GoPlaces v work wants side at) → IfSeen u (λ w. MayBePut w work at)
+    → FromTo (HasEdited None work root m (side_edits wants side full) more) t u → IfSeen t (λ v. GoPlaces v work wants side at) → IfSeen u (λ w. MayBePut w work at)
 entry_may work root m wants side at full more t u h places =
     may_still work root at m (side_edits wants side full) more t u h (λ v is. ((places v is).entry, side_off wants side at full (places v is).others))
+
+-- so a free place stays free, whatever the stage has
+pub entry_free : (held : Option View) (work root : Path) (m : Making) (wants : Bool) (side at : Path) (full : Option (List ℕ)) (more : List Edit) (t u : Option Told)
+    → FromTo (HasEdited held work root m (side_edits wants side full) more) t u → IfSeen t (λ v. GoPlaces v work wants side at) → IfSeen u (λ w. ShowsFree w at)
+entry_free held work root m wants side at full more t u h places =
+    seen_then (HasEdited held work root m (side_edits wants side full) more) (λ w. ShowsFree w at) t u
+    (λ a b is k.
+    let there : GoPlaces (seen a.state) work wants side at = places (seen a.state) (seen_of t a is) in
+    let off : AreOff (side_edits wants side full) at = side_off wants side at full there.others in
+    let kept : (q : Path) → AreOff (side_edits wants side full) q → below (stage_path work) q ≡ None → seen b.state q ≡ seen a.state q =
+    λ q apart none. k.views q (unstaged_at work q none) ∙ view_off (seen a.state) (side_edits wants side full) q apart in (
+      kept at off there.entry.apart ∙ there.entry.free.0,
+      kept (parent at) (off_parent (side_edits wants side full) at off) (below-parent (stage_path work) at there.entry.apart) ∙ there.entry.free.1,
+    )) h
 
 -- ---- the folders of one of Cryptomator
 
@@ -75,7 +89,7 @@ pub home_off : (wants : Bool) (shelf home at : Path) → (wants ≡ true → bel
 home_off wants shelf home at apart home_apart = off_both (shelf_edits wants shelf) (directory_edit home ∷ []) at (shelf_off wants shelf at apart) (home_apart, record {})
 
 pub entry_may_then : (work root : Path) (m : Making) (wants : Bool) (shelf home at : Path) (more : List Edit) (t u : Option Told)
-    → FromTo (HasEdited work root m (home_edits wants shelf home) more) t u → IfSeen t (λ v. CmPlaces v work wants shelf home at) → IfSeen u (λ w. MayBePut w work at)
+    → FromTo (HasEdited None work root m (home_edits wants shelf home) more) t u → IfSeen t (λ v. CmPlaces v work wants shelf home at) → IfSeen u (λ w. MayBePut w work at)
 entry_may_then work root m wants shelf home at more t u h places =
     may_still work root at m (home_edits wants shelf home) more t u h
     (λ v is. ((places v is).entry, home_off wants shelf home at (places v is).shelf_apart (places v is).home_apart))
@@ -113,19 +127,19 @@ home_free_now shelf home t places w is =
 
 -- ---- all edits of a making
 
-pub doing : (work root : Path) (m : Making) (t w : Option Told) (result : Result (Unit {0}) FolderFault) → FromTo (HasEdited work root m [] m.edits) t t → AddsEdits work m.edits m.files t w result
-    → FromTo (Edits work root m) t w × OnOk result (FromTo (HasEdited work root m m.edits []) t w)
+pub doing : (work root : Path) (m : Making) (t w : Option Told) (result : Result (Unit {0}) FolderFault) → FromTo (HasEdited None work root m [] m.edits) t t → AddsEdits None work m.edits m.files t w result
+    → FromTo (Edits work root m) t w × OnOk result (FromTo (HasEdited None work root m m.edits []) t w)
 doing work root m t w result begun adds =
     adds root m [] [] t (λ file among. among)
-    (from_to_more (HasEdited work root m [] m.edits) (HasEdited work root m [] (m.edits ++ [])) t t (λ a b is k. subst (λ es. HasEdited work root m [] es a b) (sym (append-nil m.edits)) k) begun)
+    (from_to_more (HasEdited None work root m [] m.edits) (HasEdited None work root m [] (m.edits ++ [])) t t (λ a b is k. subst (λ es. HasEdited None work root m [] es a b) (sym (append-nil m.edits)) k) begun)
 
 -- the first of them
 pub doing_first : (work root : Path) (m : Making) (one two : List Edit) (files : List (List ℕ)) (t w : Option Told) (result : Result (Unit {0}) FolderFault) → m.edits ≡ one ++ two
     → ((file : List ℕ) → Contains files file → Contains m.files file)
-    → FromTo (HasEdited work root m [] m.edits) t t → AddsEdits work one files t w result → FromTo (Edits work root m) t w × OnOk result (FromTo (HasEdited work root m one two) t w)
+    → FromTo (HasEdited None work root m [] m.edits) t t → AddsEdits None work one files t w result → FromTo (Edits work root m) t w × OnOk result (FromTo (HasEdited None work root m one two) t w)
 doing_first work root m one two files t w result is within begun adds =
     adds root m [] two t within
-    (from_to_more (HasEdited work root m [] m.edits) (HasEdited work root m [] (one ++ two)) t t (λ a b told k. subst (λ es. HasEdited work root m [] es a b) is k) begun)
+    (from_to_more (HasEdited None work root m [] m.edits) (HasEdited None work root m [] (one ++ two)) t t (λ a b told k. subst (λ es. HasEdited None work root m [] es a b) is k) begun)
 
 pub does_failed : (work root : Path) (m : Making) (t w : Option Told) (result : Result (Unit {0}) FolderFault) → IsErr result → FromTo (Edits work root m) t w
     → FromTo (Edits work root m) t w × OnOk result (FromTo (HasFinished work root m) t w)
@@ -133,7 +147,7 @@ does_failed work root m t w (Err fault) err edits = (edits, tt)
 does_failed work root m t w (Ok value) err edits = let clash : false ≡ true = err in cc
 
 -- any fault will do
-pub adds_err : (work : Path) (edits : List Edit) (files : List (List ℕ)) (t u : Option Told) (fault : FolderFault) (result : Result (Unit {0}) FolderFault) → IsErr result → AddsEdits work edits files t u (Err fault) → AddsEdits work edits files t u result
+pub adds_err : (work : Path) (edits : List Edit) (files : List (List ℕ)) (t u : Option Told) (fault : FolderFault) (result : Result (Unit {0}) FolderFault) → IsErr result → AddsEdits None work edits files t u (Err fault) → AddsEdits None work edits files t u result
 adds_err work edits files t u fault (Err other) err adds = adds
 adds_err work edits files t u fault (Ok value) err adds = let clash : false ≡ true = err in cc
 

@@ -164,6 +164,7 @@ put_new {vault} {work} {front} {name} {t = t} {u = u} {result = result} stands k
     answer = λ v is. answers_new (standing (format_of vault.vault) (under vault.root v) (front ++ name ∷ [])) p k.writing.drawn k.writing.ending (under vault.root v) result
         (new_at (standing (format_of vault.vault) (under vault.root v) (front ++ name ∷ [])) vault.root (stands v is)) (k.one.answer v is);
     tested = k.one.tested;
+    unpublished = k.one.unpublished;
     zeros = k.one.zeros;
     accepted = k.one.accepted;
   };

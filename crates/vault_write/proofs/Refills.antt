@@ -16,7 +16,7 @@ use Rattle.vault_faults.specs.declared.fault.Limit.TheVariants.{Depth, Items, In
 use Rattle.vault_read.specs.Contents.{Reader, Suits, Passes, Stops, IsBeingRead, still}
 use Rattle.vault_read.specs.Contents as read
 use Rattle.item_making.specs.Ending.{Whole, Damaged, TooLong}
-use Rattle.content_writing.specs.Content.{Coming, ends, bytes_before, IsTold, Steps, Gives}
+use Rattle.content_writing.specs.Content.{Coming, ends, bytes_before, IsContentFault, IsTold, Steps, Gives}
 use Rattle.vault_write.specs.ContentsComing.{ending_of, held_before, suits, fitting, coming_read}
 use Rattle.item_making.specs.Faults.{of_cat}
 use Rattle.vault_write.specs.HeldChunks.{Refills}
@@ -233,3 +233,15 @@ module _ (reader reader' : Reader) (room room' most count : ℕ) (held held1 hel
       by_tests true true first second =
           let fits : length before.bytes ≤ room = leb-true (length before.bytes) room second in
           rw (first, second, after_told (same_of fault h) fits) (none_steps fault none h (same_of fault h))
+
+-- what reading the file at a path may answer, its content may
+pub reader_fault : (at : Path) (fault : CatFault) → read.IsReaderFault at fault → IsContentFault (Some at) (of_cat fault)
+reader_fault at (cats.Damaged path fault) is = ap Some (sym is)
+reader_fault at (cats.Limit (Length path)) is = ap Some (sym is)
+reader_fault at (cats.Limit Depth) is = absurd is
+reader_fault at (cats.Limit Items) is = absurd is
+reader_fault at (cats.Limit Input) is = absurd is
+reader_fault at cats.Failed is = λ none. cc none
+reader_fault at cats.NoMemory is = λ none. cc none
+reader_fault at (cats.Find fault) is = absurd is
+reader_fault at cats.Sink is = absurd is

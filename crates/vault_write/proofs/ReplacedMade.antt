@@ -1,5 +1,5 @@
 -- What a call promises that replaced the content of a file that stands.
-use Rattle.std.proofs.Common.{arith, ◌≡◌, ◌≢◌, ◌⊎◌, ℕ, ◌≤◌, List, [], ◌∷◌, ◌++◌, length, Option, Some, None, Result, Ok, Err, refl, sym, ap, ◌∙◌, inl, inr, subst, IsTrue}
+use Rattle.std.proofs.Common.{arith, ◌≡◌, ◌≢◌, ℕ, ◌≤◌, List, [], ◌∷◌, ◌++◌, length, Option, Some, None, Result, Ok, Err, refl, sym, ap, ◌∙◌, inl, inr, subst, codes, IsTrue}
 use Rattle.chunk_files.specs.Encrypt.{draws, encrypt}
 use Rattle.chunk_files.specs.FileOf.{FilesAreWhatTheyGive, EncryptedFilesAreFiles}
 use Rattle.chunk_files.specs.Keys as contents
@@ -37,15 +37,16 @@ use Rattle.vault_write.specs.Calls.{InPlace, MakesOne, Writing}
 use Rattle.vault_write.specs.Editing.{Edits, HasFinished, IsEditing, SeesSome}
 use Rattle.vault_write.specs.Filing.{DoesReplace, IsWhole, OnlyStages, PlacesBy, PlacesFile, ReplacesContent, StopsBy, replace_making}
 use Rattle.item_making.specs.Making.{Placing, format, path_of, put_by, put_item, is_unstaged, StagesOrPlaces}
-use Rattle.item_making.specs.Placing.{IsMaking, MayMake, ShowsNewTree, making_at, EndsAs}
+use Rattle.item_making.specs.Placing.{IsMaking, MayMake, ShowsNewTree, making_at, EndsAs, OpensItem}
 use Rattle.vault_write.specs.Refusing.{AnswersOver, AnswersPut, AnswersPutBy}
 use Rattle.vault_write.specs.Showing.{EditsShowTrees, EditsBeforeTheLastKeepTrees, MakeItem, MakesAlone, SettledEditsShowTrees}
 use Rattle.vault_write.specs.Slots.{placing}
 use Rattle.item_making.specs.Trees.{StaysGood, opens_as}
+use Rattle.vault_write.proofs.Adding.{adds_staging}
 use Rattle.vault_write.proofs.Begun.{folders_seen}
 use Rattle.vault_write.proofs.FileBegun.{opens_whole}
 use Rattle.vault_write.proofs.FileMade.{begins_at, first_shown, stopped_by, stopped_making}
-use Rattle.vault_write.proofs.ItemMade.{Brings, MayRefuse, RootsShow, folder_drew, one_broken, one_error, one_stopped, one_whole}
+use Rattle.vault_write.proofs.ItemMade.{Brings, MayRefuse, OldOrNewOpens, RootsShow, folder_drew, one_broken, one_error, one_stopped, one_whole}
 use Rattle.vault_write.proofs.Seeing.{if_seen}
 
 -- Where the edit is done, this opens there.
@@ -119,27 +120,30 @@ module _ (shows : EditsShowTrees) (settles : SettledEditsShowTrees) (roots : Roo
     none_seen : ((q : Path) → IsTrue (is_unstaged p.work q) → seen b.state q ≡ seen a.state q) → under p.vault.root (seen b.state) ≡ u
     none_seen views = first_shown roots p k.apart k.beside a b [] [] refl views
 
-    replaced_ends : HasFinished p.work p.vault.root (replace_making at bytes) a b → EndsAs p u (under p.vault.root (seen b.state)) (Ok tt)
-    replaced_ends h = (
-      ap (λ w. opened (format p) w (path_of p)) (all_seen h.views) ∙ k.anew,
-      λ orderly. subst (λ w. OpensWith (format p) u w (path_of p) (opens_as p.item)) (sym (all_seen h.views)) (k.alone orderly),
+    replaced_opens : under p.vault.root (seen b.state) ≡ edited u (file_edit k.place bytes) → OpensItem p u (under p.vault.root (seen b.state))
+    replaced_opens now = (
+      ap (λ w. opened (format p) w (path_of p)) now ∙ k.anew,
+      λ orderly. subst (λ w. OpensWith (format p) u w (path_of p) (opens_as p.item)) (sym now) (k.alone orderly),
       λ clean orderly.
           let made : MakeItem (format p) u (path_of p) (opens_as p.item) (file_edit k.place bytes ∷ []) = k.item (record { clean = clean; orderly = orderly }) in
-          subst (λ w. StaysGood (format p) u w) (sym (all_seen h.views)) (record { clean = made.clean.0; tidy = made.tidy; orderly = made.vault.0.0; loads = made.vault.0.1 }),
-      subst (λ w. KeepsEntered (format p) u w) (sym (all_seen h.views)) k.enters,
+          subst (λ w. StaysGood (format p) u w) (sym now) (record { clean = made.clean.0; tidy = made.tidy; orderly = made.vault.0.0; loads = made.vault.0.1 }),
+      subst (λ w. KeepsEntered (format p) u w) (sym now) k.enters,
     )
 
-    old_or_new_opens : Edits p.work p.vault.root (replace_making at bytes) a b → IsOrderly (format p) u → OpensAs (format p) u (under p.vault.root (seen b.state)) ⊎ OpensWith (format p) u (under p.vault.root (seen b.state)) (path_of p) (opens_as p.item)
-    old_or_new_opens went orderly =
+    replaced_ends : HasFinished p.work p.vault.root (replace_making at bytes) a b → EndsAs p u (under p.vault.root (seen b.state)) (Ok tt)
+    replaced_ends h = replaced_opens (all_seen h.views)
+
+    old_or_new_opens : Edits p.work p.vault.root (replace_making at bytes) a b → OldOrNewOpens p u (under p.vault.root (seen b.state))
+    old_or_new_opens went =
         let now : SeesSome p.work (file_edit at bytes ∷ []) a.state b.state = (went_to (IsEditing p.work p.vault.root (replace_making at bytes) a.state) (λ s e. StagesOrPlaces p.work (replace_making at bytes) s e.call) a b went).sees in
         by_done now.done now.more now.is now.views
       where
         by_done : (done more : List Edit) → file_edit at bytes ∷ [] ≡ done ++ more → ((q : Path) → IsTrue (is_unstaged p.work q) → seen b.state q ≡ view_after (seen a.state) done q)
-            → OpensAs (format p) u (under p.vault.root (seen b.state)) ⊎ OpensWith (format p) u (under p.vault.root (seen b.state)) (path_of p) (opens_as p.item)
+            → OldOrNewOpens p u (under p.vault.root (seen b.state))
         by_done [] more is views = inl (subst (λ w. OpensAs (format p) u w) (sym (none_seen views)) (λ path. refl))
         by_done (e ∷ []) more is views =
             let same : e ≡ file_edit at bytes = cc in
-            inr (subst (λ w. OpensWith (format p) u w (path_of p) (opens_as p.item)) (sym (all_seen (λ q unstaged. views q unstaged ∙ ap (λ x. edited (seen a.state) x q) same))) (k.alone orderly))
+            inr (replaced_opens (all_seen (λ q unstaged. views q unstaged ∙ ap (λ x. edited (seen a.state) x q) same)))
         by_done (e ∷ next ∷ done) more is views = cc
 
   module _ (t w : Option Told) (k : (a : Told) → t ≡ Some a → IsReplaced p (opens_as p.item) drawn at bytes a) (allowed : Allows (format p) p.name) (size : length drawn ≡ making.draws (format p) p.item) where
@@ -205,9 +209,9 @@ module _ (keeps : EditsBeforeTheLastKeepTrees) (roots : RootsShow) (p : Placing)
 over_by : (p : Placing) (w : Writing) (u : View) (fault : PutFault) → Allows (format p) p.name → StopsBy (format p).content w fault → AnswersOver p w.drawn w.ending u (Err fault)
 over_by p w u (puts.Damaged at fault) allowed stops = (allowed, stops)
 over_by p w u (puts.Limit limit) allowed stops = (allowed, stops)
-over_by p w u puts.ZeroRandom allowed stops = stops
-over_by p w u puts.Source allowed stops = tt
-over_by p w u puts.Random allowed stops = tt
+over_by p w u puts.ZeroRandom allowed stops = (allowed, stops)
+over_by p w u puts.Source allowed stops = allowed
+over_by p w u puts.Random allowed stops = allowed
 over_by p w u puts.Failed allowed stops = tt
 over_by p w u puts.NoMemory allowed stops = tt
 over_by p w u (puts.Find fault) allowed stops = absurd stops
@@ -237,8 +241,8 @@ module _ (shows : EditsShowTrees) (keeps : EditsBeforeTheLastKeepTrees) (settles
         subst (λ x. MakesOne InPlace (put_place w.content) x w.drawn t s (Ok tt)) (sym whole.whole)
         (replaced_ok shows settles roots (put_place w.content) w.drawn at (encrypt keys w.drawn w.content) t s (whole_at whole) allowed whole.encrypted.enough (accepted (λ clash. cc)) does.0 does.1)
     replaced_one (Err fault) accepted (stops, inl stages) =
-        replaced_stopped keeps roots (put_place w.content) (opens_so w.content w.drawn) w.drawn at (encrypt keys w.drawn w.content) t s (replaced w.content w.drawn) w.ending fault (stopped_by (put_place w.content) w t s fault enough stops (λ other. accepted (λ same. other (one_error same))))
-        (stages vault.root (stopped_making [] (encrypt keys w.drawn w.content ∷ [])) [] [] t (λ file among. among)
+        replaced_stopped keeps roots (put_place w.content) (opens_so w.content w.drawn) w.drawn at (encrypt keys w.drawn w.content) t s (replaced w.content w.drawn) w.ending fault (stopped_by (put_place w.content) w (encrypt keys w.drawn w.content ∷ []) t s fault enough stops (λ other. accepted (λ same. other (one_error same))) stages)
+        (adds_staging None work (codes "f") [] (encrypt keys w.drawn w.content ∷ []) t s folder.NoMemory stages vault.root (stopped_making [] (encrypt keys w.drawn w.content ∷ [])) [] [] t (λ file among. among)
         (begins_at work vault.root (stopped_making [] (encrypt keys w.drawn w.content ∷ [])) t refl (λ a is. ([], refl)) may sound)).0
         (λ x. over_by (put_place w.content) w x fault allowed stops)
     replaced_one (Err fault) accepted (stops, inr (failed, is, whole, does)) =

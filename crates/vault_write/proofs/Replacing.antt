@@ -4,7 +4,6 @@ use Rattle.std.proofs.Common.{arith, zero, ◌≡◌, ℕ, true, false, List, []
 use Rattle.chunk_files.specs.Keys.{Keys}
 use Rattle.port_model.specs.Draws.{ByteStream}
 use Rattle.folder_spec.specs.declared.FolderFault.{FolderFault}
-use Rattle.folder_spec.specs.declared.FolderFault.TheVariants as folder
 use Rattle.folder_spec.specs.Path.{Part, Path, below, child}
 use Rattle.folder_spec.specs.State.{State, IsSound}
 use Rattle.folder_spec.specs.Edit.{edited, file_edit, file_view, HasPublishedIn, HasSettledIn}
@@ -26,14 +25,14 @@ use Rattle.work_folder.specs.Entries.{stage_path}
 use Rattle.content_writing.specs.Content.{Coming}
 use Rattle.item_making.specs.Faults.{of_folder}
 use Rattle.item_making.specs.declared.fault.PutFault.{PutFault}
-use Rattle.vault_write.specs.Editing.{IsEditing, Edits, HasFinished}
+use Rattle.vault_write.specs.Editing.{IsEditing, Edits, HasFinished, entry_stage}
 use Rattle.vault_write.specs.Filing.{DoesReplace, MayReplace, ReplacesContent, ReplacesEntry, StagesEntry, StopsBy, file_of, replace_making}
 use Rattle.item_making.specs.Making.{StagesOrPlaces, is_apart, is_unstaged}
-use Rattle.vault_write.proofs.Adding.{IsStagedWhole, adds_nothing, free_in_stage}
+use Rattle.vault_write.proofs.Adding.{IsStagedWhole, free_in_stage}
 use Rattle.vault_write.proofs.Edited.{StagingAt, some_part, bare_of}
 use Rattle.vault_write.proofs.Directories.{whole_staged}
 use Rattle.vault_write.proofs.Exits.{at_fault}
-use Rattle.vault_write.proofs.Filing.{only_stages, stops_folder, takes_none, takes_then, untaken}
+use Rattle.vault_write.proofs.Filing.{only_stages, staged_nothing, stops_folder, takes_none, takes_then, untaken}
 use Rattle.vault_write.proofs.Runs.{went_with, works_in_stage}
 use Rattle.vault_write.proofs.Seeing.{if_seen}
 use Rattle.vault_write.proofs.Stages.{in_stage, unstaged_below, unstaged_apart, apart_unstaged, apart_root, root_unstaged, off_root, stage_beside, staged_beside, work_unstaged, stage_unstaged}
@@ -245,17 +244,17 @@ replace_none {keys} {work} {root} {at} {coming} {stream} {t} {result} fault by_f
       writing = untaken coming;
       enough = omega arith;
       takes = takes_none keys coming stream fault;
-      ends = (stops, inl (adds_nothing work [] (file_of keys (untaken coming) ∷ []) t folder.NoMemory));
+      ends = (stops, inl (staged_nothing work (file_of keys (untaken coming) ∷ []) t));
     })
 
-pub replace_stopped : {keys : Keys} {work root at staged : Path} {coming left : Option Coming} {stream stream' : Option ByteStream} {t u : Option Told} {result : Result (Unit {0}) PutFault} (x : Part) (fault : PutFault)
-    → IsErrAnd result (λ e. e ≡ fault) → staged ≡ child (stage_path work) x → StagesEntry keys None staged coming left stream stream' t u (Err fault) → ReplacesContent keys work root at coming left stream stream' t u result
-replace_stopped {keys} {work} {root} {at} {staged} {coming} {left} {stream} {stream'} {t} {u} {result} x fault by_fault is k =
+pub replace_stopped : {keys : Keys} {work root at staged : Path} {coming left : Option Coming} {stream stream' : Option ByteStream} {t u : Option Told} {result : Result (Unit {0}) PutFault} (fault : PutFault)
+    → IsErrAnd result (λ e. e ≡ fault) → staged ≡ entry_stage work → StagesEntry keys None staged coming left stream stream' t u (Err fault) → ReplacesContent keys work root at coming left stream stream' t u result
+replace_stopped {keys} {work} {root} {at} {staged} {coming} {left} {stream} {stream'} {t} {u} {result} fault by_fault is k =
     at_fault (ReplacesContent keys work root at coming left stream stream' t u) result fault by_fault (record {
       writing = k.writing;
       enough = k.enough;
       takes = k.takes;
-      ends = (k.ends, inl (only_stages work x staged (file_of keys k.writing ∷ []) t u is k.stages));
+      ends = (k.ends, inl (only_stages work staged (file_of keys k.writing ∷ []) t u is k.stages));
     })
 
 module _ {keys : Keys} {work root at staged : Path} {coming left : Option Coming} {stream stream' : Option ByteStream} {t u : Option Told} (w : Option Told) (is : staged ≡ child (stage_path work) (codes "f"))

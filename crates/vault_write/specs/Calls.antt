@@ -1,9 +1,10 @@
 -- The calls that make an item at a plain path: under which bytes drawn, of which content, and all that follows of these.
-use Rattle.std.specs.Prelude.{◌≡◌, ◌≢◌, ◌≤◌, ◌⊎◌, ℕ, List, [], ◌∷◌, ◌++◌, length, Option, Some, None, Result, Err, OnOk, IfErr, IfSome}
+use Rattle.std.specs.Prelude.{◌≡◌, ◌≢◌, ◌≤◌, ◌⊎◌, ℕ, Bool, List, [], ◌∷◌, ◌++◌, length, Option, Some, None, Result, Ok, Err, OnOk, IfErr, IfSome}
 use Rattle.chunk_files.specs.Keys.{Keys}
 use Rattle.port_model.specs.Draws.{ByteStream, Draws}
 use Rattle.folder_spec.specs.Path.{Path, below}
-use Rattle.folder_spec.specs.Event.{Told}
+use Rattle.folder_spec.specs.Event.{Told, FromTo}
+use Rattle.folder_spec.specs.Region.{IsAsBefore}
 use Rattle.folder_spec.specs.Seen.{IfSeen, under}
 use Rattle.folder_spec.specs.View.{View}
 use Rattle.plain_tree.specs.Names as plain
@@ -15,7 +16,7 @@ use Rattle.vault_spec.specs.Vault.{format_of}
 use Rattle.item_making.specs.Ending.{Ending, Whole}
 use Rattle.content_writing.specs.Content.{Coming, Gave, HasEnded}
 use Rattle.content_writing.specs.Writing.{DrewNoZeros, DrewZeros}
-use Rattle.item_making.specs.Making.{Placing, Making, format, new_item, put_item}
+use Rattle.item_making.specs.Making.{Placing, Making, format, new_item, put_item, is_unstaged}
 use Rattle.item_making.specs.Placing.{Makes}
 use Rattle.vault_write.specs.Refusing.{Answers, AnswersPut, TakesRoot, PutsRoot}
 use Rattle.item_making.specs.declared.fault.PutFault.{PutFault}
@@ -47,13 +48,21 @@ IsOfMaking (puts.NotAllowed path) = ⊥
 IsOfMaking (puts.Taken at) = ⊥
 IsOfMaking fault = Unit {0}
 
+-- Where a call is refused though the folder and memory serve, a region is as it was.
+abbrev pub IsUnpublished : (Path → Bool) → Option Told → Option Told → Result (Unit {0}) PutFault → Type 0
+IsUnpublished region before after (Ok _) = Unit {0}
+IsUnpublished region before after (Err puts.Failed) = Unit {0}
+IsUnpublished region before after (Err puts.NoMemory) = Unit {0}
+IsUnpublished region before after (Err fault) = FromTo (λ a b. IsAsBefore region a.state b.state) before after
+
 -- A call makes an item under a name, with these bytes drawn: no more than the item draws. Where one of the tests refuses, nothing is
--- changed. Zeros are refused where they were drawn, and only there.
+-- changed; and where the content fails, nothing but the stage. Zeros are refused where they were drawn, and only there.
 pub record MakesOne (how : How) (p : Placing) (ending : Ending) (drawn : List ℕ) (before after : Option Told) (result : Result (Unit {0}) PutFault) : Type 0 where
   pub enough : length drawn ≤ draws (format p) p.item
   pub makes : Makes p ending (making_by how p drawn) before after result
   pub answer : IfSeen before (λ v. AnswersBy how p drawn ending (under p.vault.root v) result)
   pub tested : IfErr result (λ fault. IsOfMaking fault ⊎ (after ≡ before))
+  pub unpublished : IsUnpublished (is_unstaged p.work) before after result
   pub zeros : result ≡ Err puts.ZeroRandom → DrewZeros (format p).content drawn
   pub accepted : result ≢ Err puts.ZeroRandom → DrewNoZeros (format p).content drawn
 

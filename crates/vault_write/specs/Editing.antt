@@ -1,9 +1,9 @@
 -- The edits of an item, published one after the other (private contracts only).
-use Rattle.std.specs.Prelude.{◌≡◌, ℕ, Bool, true, false, List, [], ◌∷◌, ◌++◌, Contains, Option, Some, None, Result, OnOk, IsTrue}
+use Rattle.std.specs.Prelude.{codes, ◌≡◌, ℕ, Bool, true, false, List, [], ◌∷◌, ◌++◌, Contains, Option, Some, None, Result, OnOk, IsTrue}
 use Rattle.folder_spec.specs.declared.FolderFault.{FolderFault}
 use Rattle.folder_spec.specs.Path.{Part, Path, below, child}
-use Rattle.folder_spec.specs.State.{State, IsSound}
-use Rattle.folder_spec.specs.Edit.{Edit, file_edit, directory_edit, folder_edit, view_after, PublishesIn, HasPublishedIn, HasSettledIn}
+use Rattle.folder_spec.specs.State.{State, present, IsSound}
+use Rattle.folder_spec.specs.Edit.{Edit, file_edit, directory_edit, folder_edit, view_after, IsStagedView, PublishesIn, HasPublishedIn, HasSettledIn}
 use Rattle.folder_spec.specs.Event.{Told, FromTo}
 use Rattle.folder_spec.specs.Moments.{Went}
 use Rattle.folder_spec.specs.Region.{IsAsBefore, at_or_below}
@@ -36,13 +36,34 @@ pub record IsEditing (work root : Path) (m : Making) (s0 s : State) : Type 0 whe
 abbrev pub Edits : Path → Path → Making → Told → Told → Type 0
 Edits work root m a b = Went (IsEditing work root m a.state) (λ s e. StagesOrPlaces work m s e.call) a b
 
--- The first of them are done, and these are to come. The stage is ready, and all else is seen as it was after the first.
-pub record HasEdited (work root : Path) (m : Making) (done more : List Edit) (a b : Told) : Type 0 where
+-- where an item's entry is staged
+abbrev pub entry_stage : Path → Path
+entry_stage work = child (stage_path work) (codes "f")
+
+-- the stage has nothing but what stands at one place
+pub record IsReadyBut (place : Path) (v : View) (work : Path) : Type 0 where
+  pub folder : v work ≡ Folder
+  pub stage : v (stage_path work) ≡ Folder
+  pub bare : (y : Part) (rest : Path) → below place (stage_path work ++ y ∷ rest) ≡ None → v (stage_path work ++ y ∷ rest) ≡ NoEntry
+
+-- it has an item's entry, staged whole, which shows this
+pub record HoldsEntry (made : View) (s : State) (work : Path) : Type 0 where
+  pub entry : IsStagedView s (present s) (entry_stage work) made
+  pub others : IsReadyBut (entry_stage work) (seen s) work
+
+-- the stage is ready, or has this entry
+abbrev pub Holds : Option View → State → Path → Type 0
+Holds None s work = IsReady (seen s) work
+Holds (Some made) s work = HoldsEntry made s work
+
+-- The first of them are done, and these are to come. The stage is ready, or has this entry, and all else is seen as it was after the
+-- first.
+pub record HasEdited (held : Option View) (work root : Path) (m : Making) (done more : List Edit) (a b : Told) : Type 0 where
   pub is : m.edits ≡ done ++ more
   pub went : Edits work root m a b
   pub published : HasPublishedIn (is_unstaged work) done a.state b.state
   pub views : (q : Path) → IsTrue (is_unstaged work q) → seen b.state q ≡ view_after (seen a.state) done q
-  pub ready : IsReady (seen b.state) work
+  pub ready : Holds held b.state work
   pub sound : IsSound a.state
   pub sound_now : IsSound b.state
   pub apart : below work root ≡ None
@@ -50,12 +71,12 @@ pub record HasEdited (work root : Path) (m : Making) (done more : List Edit) (a 
   pub inside : (e : Edit) → Contains m.edits e → IsTrue (at_or_below root e.at)
   pub new : m.replaces ≡ false
 
--- A call does the next of them, of which these are the files.
-abbrev pub AddsEdits : Path → List Edit → List (List ℕ) → Option Told → Option Told → Result (Unit {0}) FolderFault → Type 0
-AddsEdits work edits files old new result =
+-- A call does the next of them, of which these are the files, whatever the stage has.
+abbrev pub AddsEdits : Option View → Path → List Edit → List (List ℕ) → Option Told → Option Told → Result (Unit {0}) FolderFault → Type 0
+AddsEdits held work edits files old new result =
     (root : Path) (m : Making) (done more : List Edit) (before : Option Told) → ((file : List ℕ) → Contains files file → Contains m.files file)
-    → FromTo (HasEdited work root m done (edits ++ more)) before old
-    → FromTo (Edits work root m) before new × OnOk result (FromTo (HasEdited work root m (done ++ edits) more) before new)
+    → FromTo (HasEdited held work root m done (edits ++ more)) before old
+    → FromTo (Edits work root m) before new × OnOk result (FromTo (HasEdited held work root m (done ++ edits) more) before new)
 
 -- all are done, and no directory change is pending
 pub record HasFinished (work root : Path) (m : Making) (a b : Told) : Type 0 where
@@ -73,6 +94,12 @@ AddsName staged full old new result =
 -- Something can be staged and put at a place.
 pub record MayBePut (v : View) (work at : Path) : Type 0 where
   pub ready : IsReady v work
+  pub free : ShowsFree v at
+  pub apart : below (stage_path work) at ≡ None
+
+-- The text of a long name can be staged beside an entry, and put at a place.
+pub record MayBeBeside (v : View) (work at : Path) : Type 0 where
+  pub staged : ShowsFree v (child (stage_path work) (codes "n"))
   pub free : ShowsFree v at
   pub apart : below (stage_path work) at ≡ None
 
@@ -110,13 +137,13 @@ abbrev pub DoesEdits : Path → Path → Making → Option Told → Option Told 
 DoesEdits work root m old new result = FromTo (Edits work root m) old new × OnOk result (FromTo (HasFinished work root m) old new)
 
 abbrev pub HasBegun : Path → Path → Making → Option Told → Type 0
-HasBegun work root m told = FromTo (HasEdited work root m [] m.edits) told told
+HasBegun work root m told = FromTo (HasEdited None work root m [] m.edits) told told
 
--- where the parts of a new directory of gocryptfs come to stand
+-- where the parts of a new item of gocryptfs come to stand
 pub record GoPlaces (v : View) (work : Path) (wants : Bool) (side at : Path) : Type 0 where
   pub entry : MayBePut v work at
   pub side_comes : wants ≡ true → MayBePut v work side
-  pub others : below side at ≡ None
+  pub others : wants ≡ true → below side at ≡ None
 
 -- where the folders of a new directory of Cryptomator come to stand
 pub record HomePlaces (v : View) (wants : Bool) (shelf home : Path) : Type 0 where

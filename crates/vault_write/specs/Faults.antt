@@ -1,4 +1,7 @@
 -- Which faults the calls answer. That the folder failed or memory was refused is told as such, and not as a path that isn't found.
+use Rattle.std.specs.Prelude.{Option}
+use Rattle.folder_spec.specs.Path.{Path}
+use Rattle.content_writing.specs.Content.{FitsContent}
 use Rattle.item_making.specs.declared.fault.PutFault.{PutFault}
 use Rattle.item_making.specs.declared.fault.PutFault.TheVariants as puts
 use Rattle.vault_read.specs.Contents.{IsOfPath}
@@ -30,7 +33,7 @@ IsPlaceFault Random = ⊥
 IsPlaceFault Failed = Unit {0}
 IsPlaceFault NoMemory = Unit {0}
 
--- the answers of `place_file` and `put`
-abbrev pub IsFileFault : PutFault → Type 0
-IsFileFault (Find fault) = IsOfPath fault
-IsFileFault fault = Unit {0}
+-- the answers of `place_file` and `put`, by the path that the content reads
+abbrev pub IsFileFault : Option Path → PutFault → Type 0
+IsFileFault reads (Find fault) = IsOfPath fault
+IsFileFault reads fault = FitsContent reads fault

@@ -1,14 +1,13 @@
 -- Putting a content in its place: its entry is staged whole, renamed, and settled (private contracts only).
-use Rattle.std.specs.Prelude.{true, ◌≡◌, ◌≤◌, ◌⊎◌, ℕ, List, [], ◌∷◌, ◌++◌, length, codes, Contains, Option, Some, None, Result, Ok, Err, OnOk, IsTrue}
+use Rattle.std.specs.Prelude.{true, false, ◌≡◌, ◌≤◌, ◌⊎◌, ℕ, Bool, List, [], ◌∷◌, ◌++◌, length, Option, Some, None, Result, Ok, Err, OnOk, IsTrue}
 use Rattle.chunk_files.specs.Encrypt.{IsEncrypted, draws, encrypt}
 use Rattle.chunk_files.specs.Keys as contents
 use Rattle.chunk_files.specs.Keys.{Keys}
 use Rattle.port_model.specs.Draws.{ByteStream}
 use Rattle.folder_spec.specs.declared.FolderFault.{FolderFault}
-use Rattle.folder_spec.specs.declared.FolderFault.TheVariants as folder
 use Rattle.folder_spec.specs.Edit.{Edit, file_edit, file_view, folder_view}
 use Rattle.folder_spec.specs.Event.{Told, FromTo}
-use Rattle.folder_spec.specs.Path.{Path, below, child}
+use Rattle.folder_spec.specs.Path.{Path, below}
 use Rattle.folder_spec.specs.Region.{at_or_below}
 use Rattle.folder_spec.specs.Seen.{IfSeen, ShowsFile, ShowsFree, seen, under}
 use Rattle.folder_spec.specs.State.{IsSound}
@@ -16,7 +15,6 @@ use Rattle.folder_spec.specs.View.{NoEntry, View}
 use Rattle.folder_staging.specs.Folders.{StagesFolder, HasStaged}
 use Rattle.plain_tree.specs.Names as plain
 use Rattle.work_folder.specs.Entering.{IsReady}
-use Rattle.work_folder.specs.Entries.{stage_path}
 use Rattle.vault_spec.specs.Opened.{OpenedVault}
 use Rattle.vault_faults.specs.declared.fault.FindFault.TheVariants as finds
 use Rattle.vault_spec.specs.Cryptomator.{content_file, full_file}
@@ -31,7 +29,7 @@ use Rattle.content_writing.specs.Writing.{DrewZeros}
 use Rattle.item_making.specs.declared.fault.PutFault.{PutFault}
 use Rattle.item_making.specs.declared.fault.PutFault.TheVariants as puts
 use Rattle.vault_write.specs.Calls.{How, MakesOne, TakesContent, Writing}
-use Rattle.vault_write.specs.Editing.{AddsEdits, Edits, HasEdited, HasFinished}
+use Rattle.vault_write.specs.Editing.{DoesEdits, Edits, HasEdited, HasFinished, entry_stage, side_edits}
 use Rattle.item_making.specs.Making.{Making}
 use Rattle.vault_write.specs.Slots.{IsSlot, IsTakenAt, RefusesItem, placing}
 
@@ -87,22 +85,23 @@ pub record StagesEntry (keys : Keys) (inside : Option (List ℕ)) (staged : Path
 
 -- ---- and put in its place
 
--- A call does the last edit of an item, of which these are the files, so that it lasts.
-abbrev pub DoesLast : Path → Edit → List (List ℕ) → Option Told → Option Told → Result (Unit {0}) FolderFault → Type 0
-DoesLast work e files old new result =
-    (root : Path) (m : Making) (done : List Edit) (before : Option Told) → ((file : List ℕ) → Contains files file → Contains m.files file)
-    → FromTo (HasEdited work root m done (e ∷ [])) before old
-    → FromTo (Edits work root m) before new × OnOk result (FromTo (HasFinished work root m) before new)
+-- the making of an entry, behind the text of a long name beside it where that is wanted
+abbrev pub entry_making : Bool → Path → Path → Option (List ℕ) → Option (List ℕ) → List ℕ → Making
+entry_making wants side at beside inside bytes = record {
+  edits = side_edits wants side beside ++ entry_edit at inside bytes ∷ [];
+  files = full_texts beside ++ entry_files inside bytes;
+  replaces = false;
+}
 
--- A call puts there at once what was staged, and settles, since whenever it has been staged.
+-- A call puts there at once the entry that the stage has, as the last edit of an item, and settles.
 abbrev pub PublishesEntry : Path → Path → Option Told → Option Told → Result (Unit {0}) FolderFault → Type 0
 PublishesEntry staged at old new result =
-    (work : Path) (made : View) (files : List (List ℕ)) (before : Option Told) → staged ≡ child (stage_path work) (codes "f") → IfSeen before (λ v. ShowsFree v at)
-    → HasStaged files staged made before old → DoesLast work (record { at = at; made = made }) files before new result
+    (work root : Path) (made : View) (m : Making) (done : List Edit) (before : Option Told) → staged ≡ entry_stage work → IfSeen old (λ v. ShowsFree v at)
+    → FromTo (HasEdited (Some made) work root m done (record { at = at; made = made } ∷ [])) before old → DoesEdits work root m before new result
 
 -- nothing but these files was staged
 abbrev pub OnlyStages : Path → List (List ℕ) → Option Told → Option Told → Type 0
-OnlyStages work files old new = AddsEdits work [] files old new (Err folder.NoMemory)
+OnlyStages work files old new = StagesFolder files (entry_stage work) old new
 
 -- By the answer, the content came whole and this was done; or the writing stopped and nothing else was done than that; or the folder
 -- failed meanwhile.
@@ -110,13 +109,14 @@ abbrev pub PlacesBy : Keys → Writing → (Result (Unit {0}) FolderFault → Ty
 PlacesBy keys w Does Only (Ok _) = IsWhole keys w × Does (Ok tt)
 PlacesBy keys w Does Only (Err fault) = StopsBy keys w fault × (Only ⊎ ((failed : FolderFault) × (fault ≡ of_folder failed) × IsWhole keys w × Does (Err failed)))
 
--- A call stages the entry of a content, and puts it at a path.
-pub record PlacesEntry (keys : Keys) (work at : Path) (inside : Option (List ℕ)) (coming left : Option Coming) (stream stream' : Option ByteStream)
-    (old new : Option Told) (result : Result (Unit {0}) PutFault) : Type 0 where
+-- A call stages the entry of a content, and does all edits by which it comes to its place.
+pub record PlacesEntry (keys : Keys) (work root : Path) (inside : Option (List ℕ)) (making : List ℕ → Making) (coming left : Option Coming)
+    (stream stream' : Option ByteStream) (old new : Option Told) (result : Result (Unit {0}) PutFault) : Type 0 where
   pub writing : Writing
   pub enough : length writing.drawn ≤ draws (contents.format_of keys) writing.content
   pub takes : TakesContent keys writing coming left stream stream' result
-  pub ends : PlacesBy keys writing (DoesLast work (entry_edit at inside (file_of keys writing)) (entry_files inside (file_of keys writing)) old new) (OnlyStages work (entry_files inside (file_of keys writing)) old new) result
+  pub ends : PlacesBy keys writing (DoesEdits work root (making (file_of keys writing)) old new)
+      (OnlyStages work (entry_files inside (file_of keys writing)) old new) result
 
 -- ---- in the place of another content
 
@@ -140,7 +140,7 @@ DoesReplace work root at bytes old new result =
 -- A call puts there at once the file that was staged, in the place of another, and settles.
 abbrev pub ReplacesEntry : Path → Path → Option Told → Option Told → Result (Unit {0}) FolderFault → Type 0
 ReplacesEntry staged at old new result =
-    (work root : Path) (bytes : List ℕ) (before : Option Told) → staged ≡ child (stage_path work) (codes "f") → ((a : Told) → before ≡ Some a → MayReplace work root at a)
+    (work root : Path) (bytes : List ℕ) (before : Option Told) → staged ≡ entry_stage work → ((a : Told) → before ≡ Some a → MayReplace work root at a)
     → HasStaged (bytes ∷ []) staged (file_view bytes) before old → DoesReplace work root at bytes before new result
 
 -- A call stages a content, and puts it in the place of another.

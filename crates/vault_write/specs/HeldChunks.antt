@@ -5,19 +5,6 @@ use Rattle.content_writing.specs.Content.{Coming, ends}
 use Rattle.item_making.specs.declared.fault.PutFault.{PutFault}
 use Rattle.item_making.specs.declared.fault.PutFault.TheVariants as puts
 
--- a fault that reading a file of a vault may have
-abbrev pub IsReadingFault : PutFault → Type 0
-IsReadingFault (puts.Damaged at fault) = Unit {0}
-IsReadingFault (puts.Limit limit) = Unit {0}
-IsReadingFault puts.Failed = Unit {0}
-IsReadingFault puts.NoMemory = Unit {0}
-IsReadingFault puts.Source = ⊥
-IsReadingFault (puts.Find fault) = ⊥
-IsReadingFault (puts.NotAllowed path) = ⊥
-IsReadingFault (puts.Taken at) = ⊥
-IsReadingFault puts.ZeroRandom = ⊥
-IsReadingFault puts.Random = ⊥
-
 -- As much is to come after a chunk was read as before. No bytes are held then only at the end.
 abbrev pub Refills : List ℕ → Coming → Coming → Result (Unit {0}) PutFault → Type 0
 Refills held before after (Ok _) = (after ≡ before) × (held ≡ [] → before ≡ ends Whole)

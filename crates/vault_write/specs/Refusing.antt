@@ -1,7 +1,8 @@
 -- What a call that makes an item answers, by what the vault showed at first, the bytes drawn and how the content ended. The cases
 -- exclude one another, but that the folder, the source and the random source may fail and memory run out. The tests come in this
--- order: the directory that is to have the item, the name, the place.
-use Rattle.std.specs.Prelude.{◌≡◌, ◌≢◌, ℕ, List, [], ◌++◌, length, Option, Some, None, Result, Ok, Err}
+-- order: the directory that is to have the item, the name, the place. Bytes are drawn, and the content is read, only once those are passed
+-- that need no drawn byte.
+use Rattle.std.specs.Prelude.{◌≡◌, ◌≢◌, ◌⊎◌, ℕ, List, [], ◌++◌, length, Option, Some, None, Result, Ok, Err}
 use Rattle.folder_spec.specs.Path.{Path}
 use Rattle.folder_spec.specs.View.{View}
 use Rattle.vault_read.specs.Finding.{Refuses}
@@ -27,6 +28,12 @@ pub record HasTaken (p : Placing) (drawn : List ℕ) (u : View) (place : Option 
   pub there : MayBeIn p u dir
   pub is : taken (format p) u dir p.name p.item drawn ≡ place
 
+-- The item's tests are passed that need no drawn byte: its directory is entered, its name allowed, and its own place free.
+pub record MayDraw (p : Placing) (u : View) : Type 0 where
+  pub dir : Directory
+  pub there : MayBeIn p u dir
+  pub free : (format p).taken_for_file u dir ((format p).stored dir.key p.name) ≡ None
+
 -- the name isn't allowed in the directory that is found
 pub record ForbidsName (p : Placing) (u : View) : Type 0 where
   pub dir : Directory
@@ -37,12 +44,12 @@ abbrev pub Answers : Placing → List ℕ → Ending → View → Result (Unit {
 Answers p drawn ending u (Ok _) = HasTaken p drawn u None × (ending ≡ Whole) × (length drawn ≡ draws (format p) p.item) × DrewNoZeros (format p).content drawn
 Answers p drawn ending u (Err (puts.Find fault)) = Refuses p.vault.root (enter (format p) u p.front) fault × (drawn ≡ [])
 Answers p drawn ending u (Err (puts.NotAllowed path)) = (path ≡ path_of p) × ForbidsName p u × (drawn ≡ [])
-Answers p drawn ending u (Err (puts.Taken at)) = (place : Path) × (at ≡ p.vault.root ++ place) × HasTaken p drawn u (Some place)
+Answers p drawn ending u (Err (puts.Taken at)) = (place : Path) × (at ≡ p.vault.root ++ place) × HasTaken p drawn u (Some place) × ((drawn ≡ []) ⊎ MayDraw p u)
 Answers p drawn ending u (Err (puts.Damaged at fault)) = HasTaken p drawn u None × (ending ≡ Damaged at fault)
 Answers p drawn ending u (Err (puts.Limit limit)) = HasTaken p drawn u None × (ending ≡ TooLong limit)
-Answers p drawn ending u (Err puts.ZeroRandom) = DrewZeros (format p).content drawn
-Answers p drawn ending u (Err puts.Source) = Unit {0}
-Answers p drawn ending u (Err puts.Random) = Unit {0}
+Answers p drawn ending u (Err puts.ZeroRandom) = MayDraw p u × DrewZeros (format p).content drawn
+Answers p drawn ending u (Err puts.Source) = MayDraw p u
+Answers p drawn ending u (Err puts.Random) = MayDraw p u
 Answers p drawn ending u (Err puts.Failed) = Unit {0}
 Answers p drawn ending u (Err puts.NoMemory) = Unit {0}
 
@@ -54,9 +61,9 @@ AnswersOver p drawn ending u (Err (puts.NotAllowed path)) = (path ≡ path_of p)
 AnswersOver p drawn ending u (Err (puts.Taken at)) = ⊥
 AnswersOver p drawn ending u (Err (puts.Damaged at fault)) = Allows (format p) p.name × (ending ≡ Damaged at fault)
 AnswersOver p drawn ending u (Err (puts.Limit limit)) = Allows (format p) p.name × (ending ≡ TooLong limit)
-AnswersOver p drawn ending u (Err puts.ZeroRandom) = DrewZeros (format p).content drawn
-AnswersOver p drawn ending u (Err puts.Source) = Unit {0}
-AnswersOver p drawn ending u (Err puts.Random) = Unit {0}
+AnswersOver p drawn ending u (Err puts.ZeroRandom) = Allows (format p) p.name × DrewZeros (format p).content drawn
+AnswersOver p drawn ending u (Err puts.Source) = Allows (format p) p.name
+AnswersOver p drawn ending u (Err puts.Random) = Allows (format p) p.name
 AnswersOver p drawn ending u (Err puts.Failed) = Unit {0}
 AnswersOver p drawn ending u (Err puts.NoMemory) = Unit {0}
 

@@ -1,5 +1,5 @@
 //! Making directories.
-ghost use Rattle.std.specs.Prelude.{◌≡◌, ◌≤◌, ◌∷◌, ◌++◌, [], Err, IfErr, OnOk, IsTrue};
+ghost use Rattle.std.specs.Prelude.{◌≡◌, ◌≤◌, ◌∷◌, ◌++◌, [], None, Err, IfErr, OnOk, IsTrue};
 ghost use Rattle.folder_spec.specs.Path.{Path};
 ghost use Rattle.folder_spec.specs.Seen.{IfSeen, ShowsFree, under};
 ghost use Rattle.folder_model.specs.Answers.{CountsAbove};
@@ -241,7 +241,7 @@ fn make_shelf<F: Folder>(
     wants: bool,
 ) -> Result<(), FolderFault>
     requires { IfSeen (F.told folder.old) (λ v. HomePlaces v wants shelf.now home.now) }
-    ensures made { (work : Path) → AddsEdits work (shelf_edits wants shelf.now) [] (F.told folder.old) (F.told folder.new) result }
+    ensures made { (work : Path) → AddsEdits None work (shelf_edits wants shelf.now) [] (F.told folder.old) (F.told folder.new) result }
     ensures home { OnOk result (IfSeen (F.told folder.new) (λ v. ShowsFree v home.now)) }
     ensures counts { CountsAbove (F.faults folder.old) (F.faults folder.new) result }
 {
@@ -259,7 +259,7 @@ fn make_home<F: Folder>(
     wants: bool,
 ) -> Result<(), FolderFault>
     requires { IfSeen (F.told folder.old) (λ v. HomePlaces v wants shelf.now home.now) }
-    ensures made { (work : Path) → AddsEdits work (home_edits wants shelf.now home.now) [] (F.told folder.old) (F.told folder.new) result }
+    ensures made { (work : Path) → AddsEdits None work (home_edits wants shelf.now home.now) [] (F.told folder.old) (F.told folder.new) result }
     ensures counts { CountsAbove (F.faults folder.old) (F.faults folder.new) result }
 {
     make_shelf(folder, shelf, home, wants)?;

@@ -6,12 +6,12 @@ ghost use Rattle.folder_spec.specs.Seen.{IfSeen, ShowsFree, under};
 ghost use Rattle.plain_tree.specs.Names.{is_name};
 ghost use Rattle.vault_read.specs.Opened.{FitsKey, kind_of};
 ghost use Rattle.vault_spec.specs.Vault.{format_of};
-ghost use Rattle.content_writing.specs.Content.{IsReady, still_coming};
+ghost use Rattle.content_writing.specs.Content.{FitsContent, IsReady, still_coming};
 ghost use Rattle.content_writing.specs.Writing.{Blames, ReadsApart};
-ghost use Rattle.vault_write.specs.Calls.{IsAt, IsKept, MakesFile, New, InPlace, ReadsElsewhere};
-ghost use Rattle.vault_write.specs.Editing.{MayBePut};
+ghost use Rattle.vault_write.specs.Calls.{IsAt, IsKept, MakesFile, New, InPlace, ReadsElsewhere, Writing};
+ghost use Rattle.vault_write.specs.Editing.{GoPlaces, HasBegun};
 ghost use Rattle.vault_write.specs.Faults.{IsFileFault};
-ghost use Rattle.vault_write.specs.Filing.{StagesEntry, PlacesEntry, PlacesFile, PublishesEntry, MayReplace, ReplacesEntry, ReplacesContent, IsSlotOver, StandsAs, StandsUnder, IsAtDirectory};
+ghost use Rattle.vault_write.specs.Filing.{StagesEntry, PlacesEntry, PlacesFile, PublishesEntry, MayReplace, ReplacesEntry, ReplacesContent, IsSlotOver, StandsAs, StandsUnder, IsAtDirectory, entry_making, file_of};
 ghost use Rattle.item_making.specs.Placing.{MayMake};
 ghost use Rattle.vault_spec.specs.Making.{Allows};
 ghost use Rattle.vault_spec.specs.Standing.{standing};
@@ -57,7 +57,7 @@ pub fn place_file<F: Folder, R: Randoms, C: Content<F>>(
     requires elsewhere { ReadsElsewhere (C.reads content.old) work.now vault.now.root }
     ensures made { MakesFile New vault.now work.now path.now (still_coming (C.reads content.old) (F.told folder.old) (C.coming content.old)) (still_coming (C.reads content.old) (F.told folder.old) (C.coming content.new))
         (R.left random.old) (R.left random.new) (F.told folder.old) (F.told folder.new) result }
-    ensures fault { IfErr result (λ fault. IsFileFault fault) }
+    ensures fault { IfErr result (λ fault. IsFileFault (C.reads content.old) fault) }
     ensures reads { C.reads content.new ≡ C.reads content.old }
     ensures room { C.room content.new ≤ C.room content.old }
     ensures lender { C.lender content.new ≡ C.lender content.old }
@@ -88,7 +88,7 @@ pub fn place_file_keeping<F: Folder, R: Randoms, C: Content<F>>(
     ensures made { MakesFile New vault.now work.now path.now (still_coming (C.reads content.old) (F.told folder.old) (C.coming content.old)) (still_coming (C.reads content.old) (F.told folder.old) (C.coming content.new))
         (R.left random.old) (R.left random.new) (F.told folder.old) (F.told folder.new) result }
     ensures kept { OnOk result (IsKept vault.now (F.told folder.new) kept.new.dir) }
-    ensures fault { IfErr result (λ fault. IsFileFault fault) }
+    ensures fault { IfErr result (λ fault. IsFileFault (C.reads content.old) fault) }
     ensures reads { C.reads content.new ≡ C.reads content.old }
     ensures room { C.room content.new ≤ C.room content.old }
     ensures lender { C.lender content.new ≡ C.lender content.old }
@@ -124,7 +124,7 @@ pub fn put<F: Folder, R: Randoms, C: Content<F>>(
     requires elsewhere { ReadsElsewhere (C.reads content.old) work.now vault.now.root }
     ensures made { MakesFile InPlace vault.now work.now path.now (still_coming (C.reads content.old) (F.told folder.old) (C.coming content.old)) (still_coming (C.reads content.old) (F.told folder.old) (C.coming content.new))
         (R.left random.old) (R.left random.new) (F.told folder.old) (F.told folder.new) result }
-    ensures fault { IfErr result (λ fault. IsFileFault fault) }
+    ensures fault { IfErr result (λ fault. IsFileFault (C.reads content.old) fault) }
     ensures reads { C.reads content.new ≡ C.reads content.old }
     ensures room { C.room content.new ≤ C.room content.old }
     ensures lender { C.lender content.new ≡ C.lender content.old }
@@ -170,7 +170,7 @@ fn put_named<F: Folder, R: Randoms, C: Content<F>>(
     requires elsewhere { ReadsElsewhere (C.reads content.old) work.now vault.now.root }
     ensures made { PlacesFile InPlace vault.now work.now front.now name.now (still_coming (C.reads content.old) (F.told folder.old) (C.coming content.old)) (still_coming (C.reads content.old) (F.told folder.old) (C.coming content.new))
         (R.left random.old) (R.left random.new) (F.told folder.old) (F.told folder.new) result }
-    ensures fault { IfErr result (λ fault. IsFileFault fault) }
+    ensures fault { IfErr result (λ fault. IsFileFault (C.reads content.old) fault) }
     ensures reads { C.reads content.new ≡ C.reads content.old }
     ensures room { C.room content.new ≤ C.room content.old }
     ensures lender { C.lender content.new ≡ C.lender content.old }
@@ -255,7 +255,7 @@ fn replace<F: Folder, R: Randoms, C: Content<F>>(
     requires elsewhere { ReadsElsewhere (C.reads content.old) work.now vault.now.root }
     ensures made { PlacesFile InPlace vault.now work.now front.now name.now (still_coming (C.reads content.old) (F.told folder.old) (C.coming content.old)) (still_coming (C.reads content.old) (F.told folder.old) (C.coming content.new))
         (R.left random.old) (R.left random.new) (F.told folder.old) (F.told folder.new) result }
-    ensures fault { IfErr result (λ fault. IsFileFault fault) }
+    ensures fault { IfErr result (λ fault. IsFileFault (C.reads content.old) fault) }
     ensures reads { C.reads content.new ≡ C.reads content.old }
     ensures room { C.room content.new ≤ C.room content.old }
     ensures lender { C.lender content.new ≡ C.lender content.old }
@@ -288,6 +288,7 @@ fn replace_entry<F: Folder, R: Randoms, C: Content<F>>(
     requires outside { ReadsApart (C.reads content.old) work.now }
     ensures made { ReplacesContent (format_of vault.now.vault).content work.now vault.now.root at.now (still_coming (C.reads content.old) (F.told folder.old) (C.coming content.old)) (still_coming (C.reads content.old) (F.told folder.old) (C.coming content.new))
         (R.left random.old) (R.left random.new) (F.told folder.old) (F.told folder.new) result }
+    ensures fits { IfErr result (λ fault. FitsContent (C.reads content.old) fault) }
     ensures reads { C.reads content.new ≡ C.reads content.old }
     ensures room { C.room content.new ≤ C.room content.old }
     ensures lender { C.lender content.new ≡ C.lender content.old }
@@ -328,7 +329,7 @@ fn place_over<F: Folder, R: Randoms, C: Content<F>>(
     requires elsewhere { ReadsElsewhere (C.reads content.old) work.now vault.now.root }
     ensures made { PlacesFile New vault.now work.now front.now name.now (still_coming (C.reads content.old) (F.told folder.old) (C.coming content.old)) (still_coming (C.reads content.old) (F.told folder.old) (C.coming content.new))
         (R.left random.old) (R.left random.new) (F.told folder.old) (F.told folder.new) result }
-    ensures fault { IfErr result (λ fault. IsFileFault fault) }
+    ensures fault { IfErr result (λ fault. IsFileFault (C.reads content.old) fault) }
     ensures reads { C.reads content.new ≡ C.reads content.old }
     ensures room { C.room content.new ≤ C.room content.old }
     ensures lender { C.lender content.new ≡ C.lender content.old }
@@ -373,7 +374,7 @@ fn place_named<F: Folder, R: Randoms, C: Content<F>>(
     ensures made { PlacesFile New vault.now work.now front.now name.now (still_coming (C.reads content.old) (F.told folder.old) (C.coming content.old)) (still_coming (C.reads content.old) (F.told folder.old) (C.coming content.new))
         (R.left random.old) (R.left random.new) (F.told folder.old) (F.told folder.new) result }
     ensures kept { OnOk result (IsKept vault.now (F.told folder.new) kept.new.dir) }
-    ensures fault { IfErr result (λ fault. IsFileFault fault) }
+    ensures fault { IfErr result (λ fault. IsFileFault (C.reads content.old) fault) }
     ensures reads { C.reads content.new ≡ C.reads content.old }
     ensures room { C.room content.new ≤ C.room content.old }
     ensures lender { C.lender content.new ≡ C.lender content.old }
@@ -421,7 +422,7 @@ fn place_under<F: Folder, R: Randoms, C: Content<F>>(
     requires elsewhere { ReadsElsewhere (C.reads content.old) work.now vault.now.root }
     ensures made { PlacesFile New vault.now work.now front.now name.now (still_coming (C.reads content.old) (F.told folder.old) (C.coming content.old)) (still_coming (C.reads content.old) (F.told folder.old) (C.coming content.new))
         (R.left random.old) (R.left random.new) (F.told folder.old) (F.told folder.new) result }
-    ensures fault { IfErr result (λ fault. IsFileFault fault) }
+    ensures fault { IfErr result (λ fault. IsFileFault (C.reads content.old) fault) }
     ensures reads { C.reads content.new ≡ C.reads content.old }
     ensures room { C.room content.new ≤ C.room content.old }
     ensures lender { C.lender content.new ≡ C.lender content.old }
@@ -456,7 +457,7 @@ fn place_in<F: Folder, R: Randoms, C: Content<F>>(
     requires elsewhere { ReadsElsewhere (C.reads content.old) work.now vault.now.root }
     ensures made { PlacesFile New vault.now work.now front.now name.now (still_coming (C.reads content.old) (F.told folder.old) (C.coming content.old)) (still_coming (C.reads content.old) (F.told folder.old) (C.coming content.new))
         (R.left random.old) (R.left random.new) (F.told folder.old) (F.told folder.new) result }
-    ensures fault { IfErr result (λ fault. IsFileFault fault) }
+    ensures fault { IfErr result (λ fault. IsFileFault (C.reads content.old) fault) }
     ensures reads { C.reads content.new ≡ C.reads content.old }
     ensures room { C.room content.new ≤ C.room content.old }
     ensures lender { C.lender content.new ≡ C.lender content.old }
@@ -494,7 +495,7 @@ fn place_in<F: Folder, R: Randoms, C: Content<F>>(
     result
 }
 
-// In gocryptfs a long name's file comes first, and then the content file.
+// In gocryptfs a long name's file comes to its place first, and then the content file, once that is staged whole.
 fn place_go<F: Folder, R: Randoms, C: Content<F>>(
     alloc: Global,
     folder: &mut F,
@@ -515,7 +516,7 @@ fn place_go<F: Folder, R: Randoms, C: Content<F>>(
     requires elsewhere { ReadsElsewhere (C.reads content.old) work.now vault.now.root }
     ensures made { PlacesFile New vault.now work.now front.now name.now (still_coming (C.reads content.old) (F.told folder.old) (C.coming content.old)) (still_coming (C.reads content.old) (F.told folder.old) (C.coming content.new))
         (R.left random.old) (R.left random.new) (F.told folder.old) (F.told folder.new) result }
-    ensures fault { IfErr result (λ fault. IsFileFault fault) }
+    ensures fault { IfErr result (λ fault. IsFileFault (C.reads content.old) fault) }
     ensures reads { C.reads content.new ≡ C.reads content.old }
     ensures room { C.room content.new ≤ C.room content.old }
     ensures lender { C.lender content.new ≡ C.lender content.old }
@@ -531,16 +532,8 @@ fn place_go<F: Folder, R: Randoms, C: Content<F>>(
     encrypted_files_are_files();
     let none: Option<Text> = None;
     let wants = wants_side(alloc, folder, &slot.side, &slot.full)?;
-    publish_side(folder, work, &slot.side, &slot.full, wants)?;
     place_entry(
-        folder,
-        work,
-        vault.content_keys(),
-        &slot.at,
-        &none,
-        content,
-        random,
-        buffers,
+        folder, work, vault, slot, &none, &slot.full, wants, content, random, buffers,
     )
 }
 
@@ -564,7 +557,7 @@ fn place_cm<F: Folder, R: Randoms, C: Content<F>>(
     requires elsewhere { ReadsElsewhere (C.reads content.old) work.now vault.now.root }
     ensures made { PlacesFile New vault.now work.now front.now name.now (still_coming (C.reads content.old) (F.told folder.old) (C.coming content.old)) (still_coming (C.reads content.old) (F.told folder.old) (C.coming content.new))
         (R.left random.old) (R.left random.new) (F.told folder.old) (F.told folder.new) result }
-    ensures fault { IfErr result (λ fault. IsFileFault fault) }
+    ensures fault { IfErr result (λ fault. IsFileFault (C.reads content.old) fault) }
     ensures reads { C.reads content.new ≡ C.reads content.old }
     ensures room { C.room content.new ≤ C.room content.old }
     ensures lender { C.lender content.new ≡ C.lender content.old }
@@ -578,34 +571,33 @@ fn place_cm<F: Folder, R: Randoms, C: Content<F>>(
     items_keep_vaults();
     files_are_what_they_give();
     encrypted_files_are_files();
+    let none: Option<Text> = None;
     place_entry(
-        folder,
-        work,
-        vault.content_keys(),
-        &slot.at,
-        &slot.full,
-        content,
-        random,
-        buffers,
+        folder, work, vault, slot, &slot.full, &none, false, content, random, buffers,
     )
 }
 
-// Stages the entry of a content, and puts it in its place so that it lasts.
+// Stages the entry of a content, and puts it in its place so that it lasts, behind the text of a long name beside it where that is
+// wanted. Nothing comes to a place before the content has come whole.
 fn place_entry<F: Folder, R: Randoms, C: Content<F>>(
     folder: &mut F,
     work: &Work,
-    keys: ContentKeys,
-    at: &FPath,
+    vault: &Vault,
+    slot: &Slot,
     inside: &Option<Text>,
+    beside: &Option<Text>,
+    wants: bool,
     content: &mut C,
     random: &mut R,
     buffers: &mut Buffers,
 ) -> Result<(), PutFault>
-    requires may { IfSeen (F.told folder.old) (λ v. MayBePut v work.now at.now) }
+    requires begun { (w : Writing) → HasBegun work.now vault.now.root (entry_making wants slot.now.side slot.now.at beside.now inside.now (file_of (format_of vault.now.vault).content w)) (F.told folder.old) }
+    requires places { IfSeen (F.told folder.old) (λ v. GoPlaces v work.now wants slot.now.side slot.now.at) }
     requires ready { IsReady (C.reads content.old) (F.told folder.old) (C.coming content.old) }
     requires outside { ReadsApart (C.reads content.old) work.now }
-    ensures made { PlacesEntry keys work.now at.now inside.now (still_coming (C.reads content.old) (F.told folder.old) (C.coming content.old)) (still_coming (C.reads content.old) (F.told folder.old) (C.coming content.new))
+    ensures made { PlacesEntry (format_of vault.now.vault).content work.now vault.now.root inside.now (entry_making wants slot.now.side slot.now.at beside.now inside.now) (still_coming (C.reads content.old) (F.told folder.old) (C.coming content.old)) (still_coming (C.reads content.old) (F.told folder.old) (C.coming content.new))
         (R.left random.old) (R.left random.new) (F.told folder.old) (F.told folder.new) result }
+    ensures fits { IfErr result (λ fault. FitsContent (C.reads content.old) fault) }
     ensures reads { C.reads content.new ≡ C.reads content.old }
     ensures room { C.room content.new ≤ C.room content.old }
     ensures lender { C.lender content.new ≡ C.lender content.old }
@@ -613,9 +605,18 @@ fn place_entry<F: Folder, R: Randoms, C: Content<F>>(
     ensures source { Blames result PutFault.Source (C.faults content.old) (C.faults content.new) }
     ensures random { Blames result PutFault.Random (R.faults random.old) (R.faults random.new) }
 {
-    let staged = staged_entry(work)?;
-    stage_entry(folder, &staged, keys, inside, content, random, buffers)?;
-    Ok(publish_entry(folder, &staged, at)?)
+    let entry = staged_entry(work)?;
+    stage_entry(
+        folder,
+        &entry,
+        vault.content_keys(),
+        inside,
+        content,
+        random,
+        buffers,
+    )?;
+    publish_side(folder, work, &slot.side, beside, wants)?;
+    Ok(publish_entry(folder, &entry, &slot.at)?)
 }
 
 // Puts what was staged at its place, so that it lasts.
@@ -645,6 +646,7 @@ fn stage_entry<F: Folder, R: Randoms, C: Content<F>>(
     requires apart { ReadsApart (C.reads content.old) staged.now }
     ensures staged { StagesEntry keys inside.now staged.now (still_coming (C.reads content.old) (F.told folder.old) (C.coming content.old)) (still_coming (C.reads content.old) (F.told folder.old) (C.coming content.new))
         (R.left random.old) (R.left random.new) (F.told folder.old) (F.told folder.new) result }
+    ensures fits { IfErr result (λ fault. FitsContent (C.reads content.old) fault) }
     ensures reads { C.reads content.new ≡ C.reads content.old }
     ensures room { C.room content.new ≤ C.room content.old }
     ensures lender { C.lender content.new ≡ C.lender content.old }
@@ -674,6 +676,7 @@ fn stage_folder<F: Folder, R: Randoms, C: Content<F>>(
     requires apart { ReadsApart (C.reads content.old) staged.now }
     ensures staged { StagesEntry keys full.now staged.now (still_coming (C.reads content.old) (F.told folder.old) (C.coming content.old)) (still_coming (C.reads content.old) (F.told folder.old) (C.coming content.new))
         (R.left random.old) (R.left random.new) (F.told folder.old) (F.told folder.new) result }
+    ensures fits { IfErr result (λ fault. FitsContent (C.reads content.old) fault) }
     ensures reads { C.reads content.new ≡ C.reads content.old }
     ensures room { C.room content.new ≤ C.room content.old }
     ensures lender { C.lender content.new ≡ C.lender content.old }

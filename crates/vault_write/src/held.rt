@@ -1,11 +1,12 @@
 //! A chunk of which a part is still to be given.
-ghost use Rattle.std.specs.Prelude.{◌≡◌, ◌≤◌, ℕ, List, take, drop, length, min, [], Err, IfOk, IfErr};
+ghost use Rattle.std.specs.Prelude.{◌≡◌, ◌≤◌, ℕ, List, take, drop, length, min, [], Some, Err, IfOk, IfErr};
 ghost use Rattle.port_model.specs.Counts.{CountRose};
 ghost use Rattle.folder_spec.specs.View.{FileOf};
 ghost use Rattle.folder_spec.specs.Seen.{IfSeen};
 ghost use Rattle.vault_read.specs.Contents.{IsBeingRead, still};
 ghost use Rattle.vault_write.specs.ContentsComing.{held_before};
-ghost use Rattle.vault_write.specs.HeldChunks.{Refills, IsReadingFault};
+ghost use Rattle.vault_write.specs.HeldChunks.{Refills};
+ghost use Rattle.content_writing.specs.Content.{IsContentFault};
 
 use chunk_files::ChunkBuf;
 use content_writing::PutFault;
@@ -65,7 +66,7 @@ impl Held {
         ensures refills { IfSeen (F.told folder.old) (λ v. (bytes : List ℕ) → v reader.old.at ≡ FileOf bytes
             → Refills self.new (held_before reader.old.at self.old (still reader.old.decoding bytes)) (held_before reader.old.at self.new (still reader.new.decoding bytes)) result) }
         ensures none { IfErr result (λ fault. self.new ≡ []) }
-        ensures fault { IfErr result (λ fault. IsReadingFault fault) }
+        ensures fault { IfErr result (λ fault. IsContentFault (Some reader.old.at) fault) }
         ensures grows { F.faults folder.old ≤ F.faults folder.new }
         ensures failed { result ≡ Err PutFault.Failed → CountRose (F.faults folder.old) (F.faults folder.new) }
     {

@@ -1,16 +1,16 @@
 //! Staging what an item consists of, and putting it in its places.
-ghost use Rattle.std.specs.Prelude.{codes, ◌≢◌, ◌≡◌, ◌∷◌, ◌++◌, [], true, List, ℕ, IfOk, Contains, OnOk, Option};
+ghost use Rattle.std.specs.Prelude.{codes, ◌≢◌, ◌≡◌, ◌∷◌, ◌++◌, [], true, List, ℕ, IfOk, Contains, None, OnOk, Option};
 ghost use Rattle.folder_spec.specs.Path.{Path, child};
 ghost use Rattle.folder_spec.specs.Edit.{directory_edit, file_edit, folder_edit};
 ghost use Rattle.folder_spec.specs.Event.{FromTo};
 ghost use Rattle.folder_spec.specs.Seen.{IfSeen, ShowsFree, put_found, seen};
-ghost use Rattle.folder_spec.specs.View.{Folder};
+ghost use Rattle.folder_spec.specs.View.{Folder, View};
 ghost use Rattle.folder_model.specs.Answers.{CountsAbove};
 ghost use Rattle.folder_staging.specs.Folders.{StagesFolder, IsStagedFolder};
 ghost use Rattle.work_folder.specs.Entries.{stage_path};
 ghost use Rattle.vault_spec.specs.Cryptomator.{full_file, full_files};
 ghost use Rattle.vault_spec.specs.Making.{full_texts};
-ghost use Rattle.vault_write.specs.Editing.{AddsEdits, AddsName, MayBePut, side_edits};
+ghost use Rattle.vault_write.specs.Editing.{AddsEdits, AddsName, MayBeBeside, MayBePut, side_edits};
 
 use folder_model::{FPath, Folder};
 use folder_spec::FolderFault;
@@ -30,22 +30,22 @@ pub(crate) fn staged_at(work: &Work, name: &str) -> Result<FPath, AllocError>
 // Makes a directory at its place.
 pub(crate) fn make_folder<F: Folder>(folder: &mut F, at: &FPath) -> Result<(), FolderFault>
     requires { IfSeen (F.told folder.old) (λ v. ShowsFree v at.now) }
-    ensures made { (work : Path) → AddsEdits work (directory_edit at.now ∷ []) [] (F.told folder.old) (F.told folder.new) result }
+    ensures made { (work : Path) → AddsEdits None work (directory_edit at.now ∷ []) [] (F.told folder.old) (F.told folder.new) result }
     ensures shown { OnOk result (FromTo (λ a b. seen b.state ≡ put_found (seen a.state) at.now Folder) (F.told folder.old) (F.told folder.new)) }
     ensures counts { CountsAbove (F.faults folder.old) (F.faults folder.new) result }
 {
     folder.make_dir(at)
 }
 
-// Puts a file with these bytes at its place.
+// Puts a file with these bytes at its place. In the stage it stands beside an entry that may be there.
 pub(crate) fn publish_bytes<F: Folder>(
     folder: &mut F,
     work: &Work,
     at: &FPath,
     bytes: &[u8],
 ) -> Result<(), FolderFault>
-    requires { IfSeen (F.told folder.old) (λ v. MayBePut v work.now at.now) }
-    ensures made { AddsEdits work.now (file_edit at.now bytes.now ∷ []) (bytes.now ∷ []) (F.told folder.old) (F.told folder.new) result }
+    requires { IfSeen (F.told folder.old) (λ v. MayBeBeside v work.now at.now) }
+    ensures made { (held : Option View) → AddsEdits held work.now (file_edit at.now bytes.now ∷ []) (bytes.now ∷ []) (F.told folder.old) (F.told folder.new) result }
     ensures counts { CountsAbove (F.faults folder.old) (F.faults folder.new) result }
 {
     let staged = staged_at(work, "n")?;
@@ -61,8 +61,8 @@ pub(crate) fn publish_side<F: Folder>(
     full: &Option<Text>,
     wants: bool,
 ) -> Result<(), FolderFault>
-    requires { IfSeen (F.told folder.old) (λ v. wants ≡ true → MayBePut v work.now at.now) }
-    ensures made { AddsEdits work.now (side_edits wants at.now full.now) (full_texts full.now) (F.told folder.old) (F.told folder.new) result }
+    requires { IfSeen (F.told folder.old) (λ v. wants ≡ true → MayBeBeside v work.now at.now) }
+    ensures made { (held : Option View) → AddsEdits held work.now (side_edits wants at.now full.now) (full_texts full.now) (F.told folder.old) (F.told folder.new) result }
     ensures counts { CountsAbove (F.faults folder.old) (F.faults folder.new) result }
 {
     if !wants {
@@ -123,7 +123,7 @@ pub(crate) fn publish_directory<F: Folder>(
 ) -> Result<(), FolderFault>
     requires may { IfSeen (F.told folder.old) (λ v. MayBePut v work.now at.now) }
     requires name { key_name.now ≢ full_file }
-    ensures made { AddsEdits work.now (folder_edit at.now (full_files full.now ++ (key_name.now, key.now) ∷ []) ∷ []) (full_texts full.now ++ key.now ∷ []) (F.told folder.old) (F.told folder.new) result }
+    ensures made { AddsEdits None work.now (folder_edit at.now (full_files full.now ++ (key_name.now, key.now) ∷ []) ∷ []) (full_texts full.now ++ key.now ∷ []) (F.told folder.old) (F.told folder.new) result }
     ensures counts { CountsAbove (F.faults folder.old) (F.faults folder.new) result }
 {
     staged_folders_are_seen();

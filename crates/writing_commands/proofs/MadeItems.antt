@@ -19,13 +19,13 @@ use Rattle.vault_spec.specs.Opened.{OpenedVault}
 use Rattle.vault_faults.specs.declared.fault.FindFault.TheVariants as finds
 use Rattle.vault_spec.specs.Making.{NewItem, NewDirectory}
 use Rattle.vault_spec.specs.Vault.{Vault}
-use Rattle.vault_write.specs.Calls.{How, New, IsOfMaking, making_by, AnswersBy, MakesOne, MakesAt, MakesDirectory}
+use Rattle.vault_write.specs.Calls.{How, New, IsOfMaking, IsUnpublished, making_by, AnswersBy, MakesOne, MakesAt, MakesDirectory}
 use Rattle.vault_write.specs.Faults.{IsDirectoryFault}
-use Rattle.item_making.specs.Making.{Placing, Making, format, path_of, is_elsewhere, StagesOrPlaces}
+use Rattle.item_making.specs.Making.{Placing, Making, format, path_of, is_elsewhere, is_unstaged, StagesOrPlaces}
 use Rattle.item_making.specs.Placing.{ShowsOne, ShowsNewTree, IsMaking, EndsAs, making_at}
 use Rattle.item_making.specs.Trees.{KeepsTree, GainsItem, opens_as}
 use Rattle.work_folder.specs.Entering.{EntersAs}
-use Rattle.open_for_changing.proofs.Beginnings.{Alike, Begins, Outside, apart_of_both, apart_of_unstaged, as_before_in, as_before_then, begun_then, same_under, seen_after, seen_alike, went_alone}
+use Rattle.open_for_changing.proofs.Beginnings.{Alike, Begins, Outside, apart_of_both, apart_of_unstaged, as_before_in, as_before_then, begun_then, same_under, seen_after, seen_alike, unstaged, went_alone}
 use Rattle.open_for_changing.proofs.Endings.{ended_before, made_beside}
 use Rattle.open_for_reading.proofs.Refusals.{pass_gives, unless_then}
 use Rattle.open_for_changing.proofs.Sites.{site_then}
@@ -138,10 +138,24 @@ named_made outside alike how p ending drawn t u w result sound apart begins one 
           let after : (y : View) × IsSeen u y × (under p.vault.root y ≡ under p.vault.root v) = under_then outside alike p ending making apart t u w sound begins v is in
           subst (λ z. AnswersBy how p drawn ending z result) after.2 (one.answer after.0 after.1);
       tested = tested result one.tested;
+      unpublished = unpublished result one.unpublished;
       zeros = one.zeros;
       accepted = one.accepted;
     }
   where
+    left_so : FromTo (λ b c. IsAsBefore (is_unstaged p.work) b.state c.state) u w → FromTo (λ a c. IsAsBefore (apart_from p.work) a.state c.state) t w
+    left_so same =
+        begun_then p.work (λ b c. IsAsBefore (is_unstaged p.work) b.state c.state) (λ a c. IsAsBefore (apart_from p.work) a.state c.state) t u w sound
+        (λ a b c sound_at first then_.
+        as_before_then (apart_from p.work) a.state b.state c.state (went_to (IsBeginning p.work a.state) (λ s e. Spares (apart_from p.work) e.call) a b first).others
+        (as_before_in (apart_from p.work) (is_unstaged p.work) b.state c.state (unstaged p.work) then_)) begins same
+
+    unpublished : (result : Result (Unit {0}) PutFault) → IsUnpublished (is_unstaged p.work) u w result → IsUnpublished (apart_from p.work) t w result
+    unpublished (Ok value) same = tt
+    unpublished (Err puts.Failed) same = tt
+    unpublished (Err puts.NoMemory) same = tt
+    unpublished (Err fault) same = left_so same
+
     tested : (result : Result (Unit {0}) PutFault) → IfErr result (λ fault. IsOfMaking fault ⊎ (w ≡ u)) → IfErr result (λ fault. IsOfMaking fault ⊎ ChangesOnlyWork p.work t w)
     tested (Ok value) holds = tt
     tested (Err fault) (inl begun) = inl begun

@@ -1,9 +1,9 @@
 -- The input is stored as a file of a vault.
-use Rattle.std.proofs.Common.{◌≡◌, ℕ, Bool, true, false, List, [], length, take, Option, Some, None, Result, Ok, Err, OnOk, refl, sym, ap, ◌∙◌, subst, nat_le, if◌then◌else◌, IsTrue}
+use Rattle.std.proofs.Common.{◌≡◌, ℕ, Bool, true, false, List, [], length, take, Option, Some, None, Result, Ok, Err, OnOk, IfErr, refl, sym, ap, ◌∙◌, subst, nat_le, if◌then◌else◌, IsTrue}
 use Rattle.std.specs.Io.KnownBytes.{Keeps}
 use Rattle.chunk_files.specs.Keys.{Keys}
 use Rattle.item_making.specs.Ending.{Whole, TooLong}
-use Rattle.content_writing.specs.Content.{Coming, Gave, HasEnded, coming_from, ends, within}
+use Rattle.content_writing.specs.Content.{Coming, FitsContent, Gave, HasEnded, coming_from, ends, within}
 use Rattle.vault_faults.specs.Limits.{content_limit}
 use Rattle.item_making.specs.declared.fault.PutFault.{PutFault}
 use Rattle.item_making.specs.declared.fault.PutFault.TheVariants as puts
@@ -18,6 +18,7 @@ use Rattle.vault_faults.specs.declared.fault.Limit.TheVariants.{Input}
 use Rattle.vault_spec.specs.Making.{NewFile}
 use Rattle.vault_spec.specs.Vault.{Vault}
 use Rattle.vault_write.specs.Calls.{InPlace, MakesAt, MakesFile, TakesContent, Writing}
+use Rattle.vault_write.specs.Faults.{IsFileFault}
 use Rattle.work_folder.specs.Entering.{EntersAs}
 use Rattle.open_for_changing.proofs.Beginnings.{Alike, Outside}
 use Rattle.writing_commands.proofs.MadeItems.{item_made, vault_changed}
@@ -97,6 +98,14 @@ input_taken keys w answer room room' passed passed' left left' stream stream' re
 
 -- ---- the file
 
+blamed_as_input : (result : Result (Unit {0}) PutFault) → IfErr result (λ fault. IsFileFault None fault) → IfErr result (λ fault. FitsContent None fault)
+blamed_as_input (Ok value) fits = tt
+blamed_as_input (Err (puts.Find fault)) fits = tt
+blamed_as_input (Err (puts.Damaged at fault)) fits = fits
+blamed_as_input (Err (puts.Limit limit)) fits = fits
+blamed_as_input (Err puts.Source) fits = fits
+blamed_as_input (Err fault) fits = tt
+
 module _ (change : Change) where
   abbrev pub StoresIt : Answer → World → World → Vault → Type 0
   StoresIt answer before after vault = StoresIn change vault answer before.told after.told before.random after.random before.left after.left
@@ -106,8 +115,8 @@ module _ (change : Change) where
       → IfSeen before.told (λ v. Opens v change.target.vault change.target.pass vault.vault) → IfSeen before.told (λ v. EntersAs v change.work (Ok tt))
       → answer ≡ answer_to_making result → room ≡ content_limit → passed ≡ false
       → MakesFile InPlace vault work change.target.path (coming_from room passed before.left) (coming_from room' passed' after.left) before.random after.random u after.told result
-      → Keeps before.taken after.taken → StoresFile change answer before after
-  file_made outside alike vault work answer result u before after room room' passed passed' sound apart is_root is_work begins opens entered is fresh unpassed makes unwritten =
+      → IfErr result (λ fault. IsFileFault None fault) → Keeps before.taken after.taken → StoresFile change answer before after
+  file_made outside alike vault work answer result u before after room room' passed passed' sound apart is_root is_work begins opens entered is fresh unpassed makes fits unwritten =
       let writing : Writing = makes.writing in
       let there : OpenedVault = record { root = change.target.vault; vault = vault.vault } in
       let at_root : MakesAt InPlace there work change.target.path (NewFile writing.content) writing.ending writing.drawn u after.told result =
@@ -126,4 +135,5 @@ module _ (change : Change) where
         ending = writing.ending;
         makes = made;
         takes = input_taken _ writing answer room room' passed passed' before.left after.left before.random after.random result fresh unpassed is makes.takes;
+        fits = blamed_as_input result fits;
       }) unwritten

@@ -19,7 +19,7 @@ use Rattle.port_model.specs.Draws.{ByteStream, Draws}
 use Rattle.vault_spec.specs.Making.{NewItem, draws}
 use Rattle.vault_spec.specs.Vault.{Vault}
 use Rattle.vault_spec.specs.Opened.{OpenedVault}
-use Rattle.vault_write.specs.Calls.{How, IsOfMaking, making_by, AnswersBy, AnswersRoot}
+use Rattle.vault_write.specs.Calls.{How, IsOfMaking, IsUnpublished, making_by, AnswersBy, AnswersRoot}
 use Rattle.item_making.specs.Making.{Placing, Making, format, path_of, StagesOrPlaces}
 use Rattle.item_making.specs.Placing.{ShowsOne, EndsAs, making_at}
 use Rattle.item_making.specs.Trees.{KeepsTree, GainsItem, opens_as}
@@ -58,8 +58,8 @@ pub record IsMakingBeside (p : Placing) (ending : Ending) (m : Making) (s0 s : S
   pub fronts : HoldFronts m.files s0 s
 
 -- Under a name, with these bytes drawn: no more than the item draws. In the vault the calls only bring what was staged to the places of
--- the item's edits, and where one of the tests refuses it isn't changed. Zeros are refused where they were drawn, and only
--- there.
+-- the item's edits, and where one of the tests refuses, the content or the random source, it isn't changed. Zeros are refused where they
+-- were drawn, and only there.
 pub record MakesNamed (how : How) (p : Placing) (ending : Ending) (drawn : List ℕ) (before after : Option Told) (result : Result (Unit {0}) PutFault) : Type 0 where
   pub enough : length drawn ≤ draws (format p) p.item
   pub moments : Moments (λ s0 s. IsMakingBeside p ending (making_at p (making_by how p drawn) s0) s0 s)
@@ -68,6 +68,7 @@ pub record MakesNamed (how : How) (p : Placing) (ending : Ending) (drawn : List 
   pub ends : (v w : View) → IsSeen before v → IsSeen after w → EndsAs p (under p.vault.root v) (under p.vault.root w) result
   pub answer : IfSeen before (λ v. AnswersBy how p drawn ending (under p.vault.root v) result)
   pub tested : IfErr result (λ fault. IsOfMaking fault ⊎ ChangesOnlyWork p.work before after)
+  pub unpublished : IsUnpublished (apart_from p.work) before after result
   pub zeros : result ≡ Err puts.ZeroRandom → DrewZeros (format p).content drawn
   pub accepted : result ≢ Err puts.ZeroRandom → DrewNoZeros (format p).content drawn
 

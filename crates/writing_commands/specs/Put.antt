@@ -1,7 +1,7 @@
 -- `put`: the input as a file at a plain path of a vault, new or in the place of the content of a file that stands there.
-use Rattle.std.specs.Prelude.{◌≡◌, ℕ, Bool, true, false, List, [], Option, Some}
+use Rattle.std.specs.Prelude.{◌≡◌, ℕ, Bool, true, false, List, [], Option, Some, None, IfErr}
 use Rattle.item_making.specs.Ending.{Ending}
-use Rattle.content_writing.specs.Content.{within}
+use Rattle.content_writing.specs.Content.{FitsContent, within}
 use Rattle.vault_faults.specs.Limits.{content_limit}
 use Rattle.folder_spec.specs.Event.{Told}
 use Rattle.port_model.specs.Draws.{ByteStream}
@@ -35,12 +35,13 @@ pub record TakesInput (content : List ℕ) (ending : Ending) (answer : Answer) (
   pub told : (bytes : List ℕ) → left ≡ Some bytes → within content_limit bytes ≡ record { bytes = content; ending = ending }
   pub whole : answer ≡ Done → (bytes : List ℕ) → left ≡ Some bytes → (content ≡ bytes) × (left' ≡ Some [])
 
--- a file of the input is made in this vault
+-- A file of the input is made in this vault. The input is blamed only as an input: its source failed, or it passed the limit.
 pub record StoresIn (change : Change) (vault : Vault) (answer : Answer) (told told' : Option Told) (stream stream' : Option ByteStream) (left left' : Option (List ℕ)) : Type 0 where
   pub content : List ℕ
   pub ending : Ending
   pub makes : MakesIn InPlace change (NewFile content) ending vault answer told told' stream stream'
   pub takes : TakesInput content ending answer left left'
+  pub fits : IfErr makes.result (λ fault. FitsContent None fault)
 
 -- `put`, which writes nothing
 abbrev pub StoresFile : Change → Answer → World → World → Type 0

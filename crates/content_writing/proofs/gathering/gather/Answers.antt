@@ -2,7 +2,7 @@ use Rattle.std.proofs.Common.{◌≡◌, ◌≤◌, ◌+◌, ◌-◌, ◌++◌, 
 use Rattle.std.proofs.lemmas.List.{length-append, length-take-le}
 use Rattle.std.proofs.lemmas.Result.{err_from_is_err_and}
 use Rattle.folder_model.proofs.Counting.{rose_since}
-use Rattle.content_writing.specs.Content.{Gave, still_coming}
+use Rattle.content_writing.specs.Content.{Gave, IsContentFault, still_coming}
 use Rattle.item_making.specs.declared.fault.PutFault.TheVariants as put
 use Rattle.content_writing.proofs.Comings.{gives_still, piece_fails, piece_more, piece_last}
 use Rattle.content_writing.proofs.gathering.gather.Goals as goal
@@ -22,7 +22,8 @@ returns-in_err-size g c =
       ready = e.ready;
       lender = e.lender ∙ i.lender;
       gathered = piece_fails c.args.full c.pieces.plain c.piece.new.out (still (g.C.Content.coming c.args.content.now)) (still (g.C.Content.coming c.pieces.content)) (still (g.C.Content.coming c.piece.new.self))
-          i.gave c.in_err-size.field-0.0 e.fault gives;
+          i.gave (g.C.Content.reads c.pieces.content) c.in_err-size.field-0.0 e.fault gives;
+      fault = subst (λ reads. IsContentFault reads why) i.reads e.fault;
       size = i.size;
       room = omega (arith, i.room, e.shrinks);
       failed = (omega (arith, i.failed, e.grows), λ same. rose_since _ _ _ i.failed (e.failed (let is : why ≡ put.Failed = cc same in ap Err is)));
@@ -43,6 +44,7 @@ returns-then-size-eq0 g c =
       lender = e.lender ∙ i.lender;
       gathered = piece_last c.args.full c.pieces.plain c.piece.new.out (still (g.C.Content.coming c.args.content.now)) (still (g.C.Content.coming c.pieces.content)) (still (g.C.Content.coming c.piece.new.self))
           i.gave c.in_ok-size.size c.if-size-eq0.true gives;
+      fault = tt;
       size = i.size;
       room = omega (arith, i.room, e.shrinks);
       failed = (omega (arith, i.failed, e.grows), λ same. cc same);

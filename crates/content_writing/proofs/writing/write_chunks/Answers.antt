@@ -5,11 +5,11 @@ use Rattle.chunk_files.specs.Keys.{Keys, format_of, full_size}
 use Rattle.folder_spec.specs.Event.{Told}
 use Rattle.folder_spec.specs.Path.{Path}
 use Rattle.folder_spec.specs.View.{Found}
-use Rattle.content_writing.specs.Content.{Coming, IsReady, still_coming}
+use Rattle.content_writing.specs.Content.{Coming, IsContentFault, IsReady, still_coming}
 use Rattle.content_writing.specs.Streaming.{BeginsContent, Gathers, IsStaged, IsUnderway, StoresChunk, Start}
 use Rattle.item_making.specs.declared.fault.PutFault.{PutFault}
 use Rattle.item_making.specs.declared.fault.PutFault.TheVariants as put
-use Rattle.content_writing.proofs.Blaming.{blames_at, stores_unread}
+use Rattle.content_writing.proofs.Blaming.{blames_at, content_fits, fits_at, folder_fits, stores_fit, stores_unread}
 use Rattle.content_writing.proofs.Drawing.{full_is, some_full}
 use Rattle.content_writing.proofs.Standing.{IsStill, staged_still, still_same, ready_now, ready_before}
 use Rattle.content_writing.proofs.Underway.{first_fails, begin_fails, has_begun, next_fails, next_underway, store_fails, finish_fails, is_written, staged_seen}
@@ -252,3 +252,36 @@ returns-clause-written g c =
     let i = c.chunks.invariant.underway in
     is_written w c.chunks.encoder c.chunks.plain (g.F.Folder.told c.chunks.folder) (g.F.Folder.told c.finish_file.new.folder) (g.R.Randoms.left c.chunks.random)
     (still (g.C.Content.coming c.chunks.content)) i (omega (arith, i.size, full, c.len.ensures, c.chunks-test.false)) c.in_ok-finish_file.field-0 c.in_ok-finish_file.ensures.finished
+
+pub returns-in_err-gather-clause-fits : goal.returns-in_err-gather-clause-fits
+returns-in_err-gather-clause-fits g c =
+    let reads = g.C.Content.reads c.args.content.now in
+    fits_at reads c.from_residual.result c.in_err-gather.field-0.0 c.from_residual.ensures.1 (content_fits reads c.in_err-gather.field-0.0 c.in_err-gather.ensures.fault)
+
+pub returns-in_err-begin_content-clause-fits : goal.returns-in_err-begin_content-clause-fits
+returns-in_err-begin_content-clause-fits g c =
+    let reads = g.C.Content.reads c.args.content.now in
+    fits_at reads c.from_residual-in_err-begin_content.result c.in_err-begin_content.field-0.0 c.from_residual-in_err-begin_content.ensures.1
+    (stores_fit reads _ _ c.in_err-begin_content.field-0.0 c.in_err-begin_content.ensures.begun.ends)
+
+pub returns-in_err-gather-2-clause-fits : goal.returns-in_err-gather-2-clause-fits
+returns-in_err-gather-2-clause-fits g c =
+    let reads = g.C.Content.reads c.args.content.now in
+    let why = c.in_err-gather-2.field-0.0 in
+    fits_at reads c.from_residual-in_err-gather-2.result why c.from_residual-in_err-gather-2.ensures.1 (content_fits reads why (subst (λ (r : Option Path). IsContentFault r why) c.chunks.invariant.reads c.in_err-gather-2.ensures.fault))
+
+pub returns-in_err-store_chunk-clause-fits : goal.returns-in_err-store_chunk-clause-fits
+returns-in_err-store_chunk-clause-fits g c =
+    let full : c.full-full.result ≡ (format_of c.args.keys).full_size = full_at c.args.keys c.layout.result c.full-full.result c.layout.ensures c.full-full.ensures in
+    let i = c.chunks.invariant in
+    let all : length c.chunks.plain ≡ (format_of c.args.keys).full_size = omega (arith, c.len.ensures, c.chunks-test.true, full) in
+    let s = c.in_err-store_chunk.ensures in
+    let why = c.in_err-store_chunk.field-0.0 in
+    let stored = s.stored s.some in
+    fits_at (g.C.Content.reads c.args.content.now) c.from_residual-in_err-store_chunk.result why c.from_residual-in_err-store_chunk.ensures.1
+    (stores_fit (g.C.Content.reads c.args.content.now) _ _ why (stored.ends i.underway.drawn i.underway.content i.underway.made (i.underway.goes_on all)))
+
+pub returns-in_err-finish_file-clause-fits : goal.returns-in_err-finish_file-clause-fits
+returns-in_err-finish_file-clause-fits g c =
+    let reads = g.C.Content.reads c.args.content.now in
+    fits_at reads c.from_residual-in_err-finish_file.result _ c.from_residual-in_err-finish_file.ensures.1 (folder_fits reads c.in_err-finish_file.field-0.0)

@@ -79,7 +79,7 @@ returns-clause-chance g c =
     item_chance c.args.vault.now c.args.work.now c.args.seed c.args.number c.in_ok-path.path (NewFile made.writing.content) _ made.writing.drawn _ _ c.place_file.result c.in_ok-path.ensures made.makes
     c.what_stands_is_found_step_by_step.ensures.below c.what_is_found_stands.ensures.enters
     (sym (ap (λ x. x.ending) (made.takes.told (coming_of it.seed it.number it.given it.left) refl)))
-    (if_err c.place_file.result _ (λ fault err. file_own fault (at_err c.place_file.result _ fault err c.place_file.ensures.fault) (λ same. no_rise (c.place_file.ensures.source.1 (err ∙ ap Err same)))))
+    (if_err c.place_file.result _ (λ fault err. file_own _ fault (at_err c.place_file.result _ fault err c.place_file.ensures.fault) (λ same. no_rise (c.place_file.ensures.source.1 (err ∙ ap Err same)))))
 
 pub returns-then-is_directory-clause-shared : goal.returns-then-is_directory-clause-shared
 returns-then-is_directory-clause-shared g c =

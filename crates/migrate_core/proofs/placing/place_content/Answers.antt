@@ -103,7 +103,7 @@ pub returns-in_err-placed-clause-blamed : goal.returns-in_err-placed-clause-blam
 returns-in_err-placed-clause-blamed g c =
     let made = c.in_err-placed.ensures in
     fault_as _ c.from_residual-in_err-placed.result c.from_residual-in_err-placed.ensures.1
-    (blamed_file c.in_err-placed.field-0.0 made.fault (λ is. omega (arith, made.source.1 (ap Err is))) (λ is. made.failed.1 (ap Err is)) (λ is. made.random.1 (ap Err is)))
+    (blamed_file _ c.in_err-placed.field-0.0 made.fault (λ is. omega (arith, made.source.1 (ap Err is))) (λ is. made.failed.1 (ap Err is)) (λ is. made.random.1 (ap Err is)))
 
 pub returns-in_err-content-clause-written : goal.returns-in_err-content-clause-written
 returns-in_err-content-clause-written g c =
@@ -156,7 +156,7 @@ returns-in_err-placed-clause-moving g c =
     let makes = subst (λ q. MakesAt New to c.args.work.now q (NewFile w.content) w.ending w.drawn told told' (Err why)) (ap (λ (x : Planned). x.path) c.item.view_is) made.makes in
     fault_as _ c.from_residual-in_err-placed.result c.from_residual-in_err-placed.ensures.1
     (λ v seen. put_stop (Enters to item v) (StopsAt (Enters to item v) from v (item ∷ [])) why
-    (file_stops c.files_fit_as_contents.ensures c.args.sides.now.names from to item told w.content w.ending why c.requires.file (λ is. omega (arith, e.source.1 (ap Err is))) c.requires.allowed e.fault c.requires.item
+    (file_stops _ c.files_fit_as_contents.ensures c.args.sides.now.names from to item told w.content w.ending why c.requires.file (λ is. omega (arith, e.source.1 (ap Err is))) c.requires.allowed e.fault c.requires.item
     (coming_told from item content (gives g (goal.at.returns-in_err-placed-clause-moving g c).In_ok-content) told (record { bytes = w.content; ending = w.ending }) made.takes.told)
     (refusal_tells to c.args.work.now item.path (NewFile w.content) w.ending w.drawn told told' why makes) v seen))
 

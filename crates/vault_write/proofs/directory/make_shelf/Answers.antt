@@ -1,4 +1,4 @@
-use Rattle.std.proofs.Common.{[], sym, subst}
+use Rattle.std.proofs.Common.{[], None, sym, subst}
 use Rattle.vault_write.specs.Editing.{AddsEdits, HomePlaces, shelf_edits}
 use Rattle.vault_write.proofs.Placed.{home_free_now, shelf_home}
 use Rattle.vault_write.proofs.directory.make_shelf.Goals as goal
@@ -10,7 +10,7 @@ returns-then-not-wants-clause-home g c =
 
 pub returns-clause-made : goal.returns-clause-made
 returns-clause-made g c = λ work.
-    subst (λ b. AddsEdits work (shelf_edits b c.args.shelf.now) [] (g.F.Folder.told c.args.folder.now) (g.F.Folder.told c.make_folder.new.folder) c.make_folder.result) (sym c.if-not-wants.false)
+    subst (λ b. AddsEdits None work (shelf_edits b c.args.shelf.now) [] (g.F.Folder.told c.args.folder.now) (g.F.Folder.told c.make_folder.new.folder) c.make_folder.result) (sym c.if-not-wants.false)
     (c.make_folder.ensures.made work)
 
 pub returns-clause-home : goal.returns-clause-home

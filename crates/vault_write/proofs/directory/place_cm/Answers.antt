@@ -5,11 +5,13 @@ use Rattle.vault_write.specs.Editing.{cm_making}
 use Rattle.vault_write.specs.Slots.{placing}
 use Rattle.vault_write.proofs.DirectoryPlaced.{refused_one, undrawn_one, home_refused, is_cryptomator, is_id, cm_may, failed_one, done_one, none_refused}
 use Rattle.vault_write.proofs.Exits.{place_drew}
+use Rattle.vault_write.proofs.Found.{cm_draws}
 use Rattle.vault_write.proofs.directory.place_cm.Goals as goal
 
 pub returns-in_err-text-clause-made : goal.returns-in_err-text-clause-made
 returns-in_err-text-clause-made g c =
-    undrawn_one c.args.vault.now c.args.work.now c.args.front.now c.args.name.now (g.R.Randoms.left c.args.random.now) (g.R.Randoms.left c.draw_id.new.random) (g.F.Folder.told c.args.folder.now) (g.F.Folder.told c.args.folder.now) c.in_err-text.field-0.0 c.from_residual.result c.in_err-text.ensures.few (none_refused c.contents_of_cryptomator_refuse_no_zeros.ensures c.args.vault.now.vault c.requires.kind) c.in_err-text.ensures.fault refl c.from_residual.ensures.1
+    undrawn_one c.args.vault.now c.args.work.now c.args.front.now c.args.name.now (g.R.Randoms.left c.args.random.now) (g.R.Randoms.left c.draw_id.new.random) (g.F.Folder.told c.args.folder.now) (g.F.Folder.told c.args.folder.now) c.in_err-text.field-0.0 c.from_residual.result c.in_err-text.ensures.few (none_refused c.contents_of_cryptomator_refuse_no_zeros.ensures c.args.vault.now.vault c.requires.kind) c.in_err-text.ensures.fault
+    (cm_draws c.args.vault.now.root c.args.vault.now.vault c.requires.kind c.args.work.now c.args.front.now c.args.name.now NewDirectory (g.F.Folder.told c.args.folder.now) c.args.slot.now.at c.args.slot.now.side c.args.slot.now.full c.requires.slot) refl c.from_residual.ensures.1
 
 pub home_of-requires : goal.home_of-requires
 home_of-requires g c = is_cryptomator c.args.vault.now.vault c.requires.kind

@@ -4,7 +4,7 @@ use Rattle.vault_spec.specs.Making.{NewDirectory}
 use Rattle.vault_spec.specs.Vault.{format_of}
 use Rattle.vault_write.specs.Editing.{go_making}
 use Rattle.vault_write.specs.Slots.{placing}
-use Rattle.vault_write.proofs.Found.{side_refused}
+use Rattle.vault_write.proofs.Found.{go_draws, side_refused}
 use Rattle.vault_write.proofs.DirectoryPlaced.{drawn_none, refused_one, go_may, go_undrawn, drew_key, failed_one, done_one, key_has_bits}
 use Rattle.vault_write.proofs.Exits.{place_drew}
 use Rattle.vault_write.proofs.Filing.{no_zeros_in_none}
@@ -17,7 +17,9 @@ returns-in_err-wants-clause-made g c =
 
 pub returns-in_err-key-clause-made : goal.returns-in_err-key-clause-made
 returns-in_err-key-clause-made g c =
-    go_undrawn c.args.vault.now c.requires.kind c.args.work.now c.args.front.now c.args.name.now (g.R.Randoms.left c.args.random.now) (g.R.Randoms.left c.draw_some.new.random) (g.F.Folder.told c.args.folder.now) (g.F.Folder.told c.wants_side.new.folder) c.in_err-key.field-0.0 c.from_residual-in_err-key.result c.in_err-key.ensures.draws c.wants_side.ensures.told c.from_residual-in_err-key.ensures.1
+    go_undrawn c.args.vault.now c.requires.kind c.args.work.now c.args.front.now c.args.name.now (g.R.Randoms.left c.args.random.now) (g.R.Randoms.left c.draw_some.new.random) (g.F.Folder.told c.args.folder.now) (g.F.Folder.told c.wants_side.new.folder) c.in_err-key.field-0.0 c.from_residual-in_err-key.result c.in_err-key.ensures.draws
+    (go_draws c.args.vault.now.root c.args.vault.now.vault c.requires.kind c.args.work.now c.args.front.now c.args.name.now NewDirectory (g.F.Folder.told c.args.folder.now) c.args.slot.now.at c.args.slot.now.side c.args.slot.now.full c.requires.slot (λ v is. (c.in_ok-wants.ensures.wants v is).1))
+    c.wants_side.ensures.told c.from_residual-in_err-key.ensures.1
 
 pub make_go-requires-clause-begun : goal.make_go-requires-clause-begun
 make_go-requires-clause-begun g c = rw c.wants_side.ensures.told (go_may c.what_is_found_stands.ensures.enters c.what_is_found_stands.ensures.folder c.args.vault.now.root c.args.vault.now.vault c.requires.kind (c.items_keep_vaults.ensures c.args.vault.now.vault) c.args.work.now c.args.front.now c.args.name.now c.requires.named

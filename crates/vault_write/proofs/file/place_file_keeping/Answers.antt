@@ -13,7 +13,7 @@ returns-in-empty g c =
     record {
       kept = tt;
       made = root_file New none is;
-      fault = root_fits New c.args.vault.now.root c.taken.result is;
+      fault = root_fits (g.C.Content.reads c.args.content.now) New c.args.vault.now.root c.taken.result is;
       reads = refl;
       room = omega arith;
       lender = refl;

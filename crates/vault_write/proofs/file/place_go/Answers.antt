@@ -1,13 +1,9 @@
-use Rattle.std.proofs.Common.{sym, subst}
-use Rattle.folder_spec.specs.Seen.{IsSeen}
 use Rattle.content_writing.specs.Content.{still_coming}
-use Rattle.item_making.specs.Faults.{of_folder}
 use Rattle.vault_spec.specs.Making.{NewFile}
 use Rattle.vault_write.specs.Calls.{New}
-use Rattle.vault_write.specs.Filing.{PlacesFile}
-use Rattle.vault_write.proofs.Exits.{at_fault, place_drew}
+use Rattle.vault_write.proofs.Exits.{place_drew}
 use Rattle.vault_write.proofs.FileBegun.{file_places}
-use Rattle.vault_write.proofs.FileMade.{file_refused, go_failed, go_may, go_placed, go_ready}
+use Rattle.vault_write.proofs.FileMade.{file_refused, go_begins, go_placed, placed_at}
 use Rattle.vault_write.proofs.Filing.{reads_outside}
 use Rattle.vault_write.proofs.Found.{side_refused}
 use Rattle.vault_write.proofs.file.place_go.Goals as goal
@@ -18,44 +14,31 @@ returns-in_err-wants-clause-made g c =
     (λ content. side_refused c.args.vault.now.root c.args.vault.now.vault c.requires.kind c.args.front.now c.args.name.now (g.F.Folder.told c.args.folder.now) c.args.slot.now.at c.args.slot.now.side c.args.slot.now.full
     c.requires.slot (NewFile content) c.in_err-wants.field-0.0 c.in_err-wants.ensures.taken c.args.work.now)
 
-pub publish_side-requires : goal.publish_side-requires
-publish_side-requires g c = λ v is is_wanted.
+pub place_entry-requires-clause-begun : goal.place_entry-requires-clause-begun
+place_entry-requires-clause-begun g c = rw c.wants_side.ensures.told (λ w.
+    go_begins c.edits_show_trees.ensures.during c.edits_show_trees.ensures.first c.edits_show_trees.ensures.settled c.roots_show_their_own.ensures.edits c.files_are_what_they_give.ensures c.encrypted_files_are_files.ensures
+    c.what_is_found_stands.ensures.enters c.args.vault.now (c.items_keep_vaults.ensures c.args.vault.now.vault) c.args.work.now c.args.front.now c.args.name.now c.requires.named
+    c.args.slot.now.at c.args.slot.now.side c.args.slot.now.full (g.F.Folder.told c.args.folder.now) (g.met.F.Folder.sound c.args.folder.now) c.requires.may c.requires.slot
+    c.requires.kind c.in_ok-wants.wants c.in_ok-wants.ensures.wants w)
+
+pub place_entry-requires-clause-places : goal.place_entry-requires-clause-places
+place_entry-requires-clause-places g c = rw c.wants_side.ensures.told
     (file_places c.what_is_found_stands.ensures.enters c.what_is_found_stands.ensures.folder c.args.vault.now.root c.args.vault.now.vault c.requires.kind c.args.work.now c.args.front.now c.args.name.now (g.F.Folder.told c.args.folder.now) c.requires.may
-    c.args.slot.now.at c.args.slot.now.side c.args.slot.now.full c.in_ok-wants.wants c.requires.slot c.in_ok-wants.ensures.wants v (subst (λ o. IsSeen o v) c.wants_side.ensures.told is)).side_comes is_wanted
-
-pub returns-in_err-publish_side-clause-made : goal.returns-in_err-publish_side-clause-made
-returns-in_err-publish_side-clause-made g c =
-    at_fault (PlacesFile New c.args.vault.now c.args.work.now c.args.front.now c.args.name.now (still_coming (g.C.Content.reads c.args.content.now) (g.F.Folder.told c.args.folder.now) (g.C.Content.coming c.args.content.now)) (still_coming (g.C.Content.reads c.args.content.now) (g.F.Folder.told c.args.folder.now) (g.C.Content.coming c.args.content.now)) (g.R.Randoms.left c.args.random.now) (g.R.Randoms.left c.args.random.now) (g.F.Folder.told c.args.folder.now) (g.F.Folder.told c.publish_side.new.folder)) c.from_residual-in_err-publish_side.result (of_folder c.in_err-publish_side.field-0.0) c.from_residual-in_err-publish_side.ensures.1
-    (go_failed c.edits_show_trees.ensures.during c.edits_show_trees.ensures.first c.edits_show_trees.ensures.settled c.roots_show_their_own.ensures.edits c.files_are_what_they_give.ensures c.encrypted_files_are_files.ensures
-    c.what_is_found_stands.ensures.enters c.args.vault.now (c.items_keep_vaults.ensures c.args.vault.now.vault) c.args.work.now c.args.front.now c.args.name.now c.requires.named
-    c.args.slot.now.at c.args.slot.now.side c.args.slot.now.full (g.F.Folder.told c.args.folder.now) (g.met.F.Folder.sound c.args.folder.now) c.requires.may c.requires.slot
-    c.requires.kind c.in_ok-wants.wants c.in_ok-wants.ensures.wants (g.F.Folder.told c.publish_side.new.folder)
-    (still_coming (g.C.Content.reads c.args.content.now) (g.F.Folder.told c.args.folder.now) (g.C.Content.coming c.args.content.now)) (g.R.Randoms.left c.args.random.now) c.in_err-publish_side.field-0.0 (rw (sym c.wants_side.ensures.told) c.in_err-publish_side.ensures.made))
-
-pub place_entry-requires-clause-may : goal.place_entry-requires-clause-may
-place_entry-requires-clause-may g c =
-    go_may c.edits_show_trees.ensures.during c.edits_show_trees.ensures.first c.edits_show_trees.ensures.settled c.roots_show_their_own.ensures.edits c.files_are_what_they_give.ensures c.encrypted_files_are_files.ensures
-    c.what_is_found_stands.ensures.enters c.args.vault.now (c.items_keep_vaults.ensures c.args.vault.now.vault) c.args.work.now c.args.front.now c.args.name.now c.requires.named
-    c.args.slot.now.at c.args.slot.now.side c.args.slot.now.full (g.F.Folder.told c.args.folder.now) (g.met.F.Folder.sound c.args.folder.now) c.requires.may c.requires.slot
-    c.requires.kind c.in_ok-wants.wants c.in_ok-wants.ensures.wants (g.F.Folder.told c.publish_side.new.folder)
-    (rw (sym c.wants_side.ensures.told) c.in_ok-publish_side.ensures.made) c.what_is_found_stands.ensures.folder
+    c.args.slot.now.at c.args.slot.now.side c.args.slot.now.full c.in_ok-wants.wants c.requires.slot c.in_ok-wants.ensures.wants)
 
 pub place_entry-requires-clause-ready : goal.place_entry-requires-clause-ready
-place_entry-requires-clause-ready g c =
-    go_ready c.edits_show_trees.ensures.during c.edits_show_trees.ensures.first c.edits_show_trees.ensures.settled c.roots_show_their_own.ensures.edits c.files_are_what_they_give.ensures c.encrypted_files_are_files.ensures
-    c.what_is_found_stands.ensures.enters c.args.vault.now (c.items_keep_vaults.ensures c.args.vault.now.vault) c.args.work.now c.args.front.now c.args.name.now c.requires.named
-    c.args.slot.now.at c.args.slot.now.side c.args.slot.now.full (g.F.Folder.told c.args.folder.now) (g.met.F.Folder.sound c.args.folder.now) c.requires.may c.requires.slot
-    c.requires.kind c.in_ok-wants.wants c.in_ok-wants.ensures.wants (g.F.Folder.told c.publish_side.new.folder)
-    (rw (sym c.wants_side.ensures.told) c.in_ok-publish_side.ensures.made) (g.C.Content.reads c.args.content.now) c.requires.elsewhere (g.C.Content.coming c.args.content.now) c.requires.ready
+place_entry-requires-clause-ready g c = rw c.wants_side.ensures.told c.requires.ready
 
 pub place_entry-requires-clause-outside : goal.place_entry-requires-clause-outside
 place_entry-requires-clause-outside g c = reads_outside (g.C.Content.reads c.args.content.now) c.args.work.now c.args.vault.now.root c.requires.elsewhere
 
 pub returns-clause-made : goal.returns-clause-made
 returns-clause-made g c =
-    go_placed c.edits_show_trees.ensures.during c.edits_show_trees.ensures.first c.edits_show_trees.ensures.settled c.roots_show_their_own.ensures.edits c.files_are_what_they_give.ensures c.encrypted_files_are_files.ensures
+    placed_at (g.C.Content.reads c.args.content.now) (g.C.Content.coming c.args.content.now) (g.C.Content.coming c.place_entry.new.content) c.wants_side.ensures.told
+    (go_placed c.edits_show_trees.ensures.during c.edits_show_trees.ensures.first c.edits_show_trees.ensures.settled c.roots_show_their_own.ensures.edits c.files_are_what_they_give.ensures c.encrypted_files_are_files.ensures
     c.what_is_found_stands.ensures.enters c.args.vault.now (c.items_keep_vaults.ensures c.args.vault.now.vault) c.args.work.now c.args.front.now c.args.name.now c.requires.named
-    c.args.slot.now.at c.args.slot.now.side c.args.slot.now.full (g.F.Folder.told c.args.folder.now) (g.met.F.Folder.sound c.args.folder.now) c.requires.may c.requires.slot
-    c.requires.kind c.in_ok-wants.wants c.in_ok-wants.ensures.wants (g.F.Folder.told c.publish_side.new.folder)
-    (rw (sym c.wants_side.ensures.told) c.in_ok-publish_side.ensures.made) (g.C.Content.reads c.args.content.now) c.requires.elsewhere (g.C.Content.coming c.args.content.now) (g.C.Content.coming c.place_entry.new.content) (g.R.Randoms.left c.args.random.now) (g.R.Randoms.left c.place_entry.new.random) (g.F.Folder.told c.place_entry.new.folder) c.place_entry.result
-    (rw (sym c.content_keys.ensures) c.place_entry.ensures.made)
+    c.args.slot.now.at c.args.slot.now.side c.args.slot.now.full (g.F.Folder.told c.wants_side.new.folder) (g.met.F.Folder.sound c.wants_side.new.folder) (rw c.wants_side.ensures.told c.requires.may) (rw c.wants_side.ensures.told c.requires.slot)
+    c.requires.kind c.in_ok-wants.wants (rw c.wants_side.ensures.told c.in_ok-wants.ensures.wants)
+    (still_coming (g.C.Content.reads c.args.content.now) (g.F.Folder.told c.wants_side.new.folder) (g.C.Content.coming c.args.content.now)) (still_coming (g.C.Content.reads c.args.content.now) (g.F.Folder.told c.wants_side.new.folder) (g.C.Content.coming c.place_entry.new.content))
+    (g.R.Randoms.left c.args.random.now) (g.R.Randoms.left c.place_entry.new.random) (g.F.Folder.told c.place_entry.new.folder) c.place_entry.result
+    c.place_entry.ensures.made)

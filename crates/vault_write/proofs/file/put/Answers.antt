@@ -13,7 +13,7 @@ returns-in-empty g c =
     let is = subst (λ path. (c.wrong_kind.result ≡ puts.NoMemory) ⊎ (c.wrong_kind.result ≡ puts.Find (finds.WrongKind path))) none c.wrong_kind.ensures in
     record {
       made = root_file InPlace none is;
-      fault = root_fits InPlace c.args.vault.now.root c.wrong_kind.result is;
+      fault = root_fits (g.C.Content.reads c.args.content.now) InPlace c.args.vault.now.root c.wrong_kind.result is;
       reads = refl;
       room = omega arith;
       lender = refl;

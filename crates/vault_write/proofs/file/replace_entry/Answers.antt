@@ -2,6 +2,7 @@ use Rattle.std.proofs.Common.{◌∙◌, sym, codes}
 use Rattle.folder_spec.proofs.Paths.{child-not_base}
 use Rattle.work_folder.specs.Entries.{stage_path}
 use Rattle.item_making.specs.declared.fault.PutFault.TheVariants as puts
+use Rattle.content_writing.proofs.Blaming.{fits_at, folder_fits}
 use Rattle.vault_write.specs.Filing.{file_of}
 use Rattle.vault_write.proofs.Filing.{reads_apart}
 use Rattle.vault_write.proofs.Replacing.{replace_failed, replace_free, replace_none, replace_placed, replace_stopped, replaces_allowed}
@@ -21,7 +22,7 @@ stage_entry-requires-clause-apart g c = reads_apart (g.C.Content.reads c.args.co
 
 pub returns-in_err-stage_entry-clause-made : goal.returns-in_err-stage_entry-clause-made
 returns-in_err-stage_entry-clause-made g c =
-    rw (sym c.content_keys.ensures) (replace_stopped (codes "f") c.in_err-stage_entry.field-0.0 c.from_residual-in_err-stage_entry.ensures.1 c.in_ok-staged.ensures c.in_err-stage_entry.ensures.staged)
+    rw (sym c.content_keys.ensures) (replace_stopped c.in_err-stage_entry.field-0.0 c.from_residual-in_err-stage_entry.ensures.1 c.in_ok-staged.ensures c.in_err-stage_entry.ensures.staged)
 
 pub publish_entry-requires : goal.publish_entry-requires
 publish_entry-requires g c =
@@ -35,3 +36,15 @@ returns-in_err-publish_entry-clause-made g c =
 pub returns-clause-made : goal.returns-clause-made
 returns-clause-made g c =
     rw (sym c.content_keys.ensures) (replace_placed (g.F.Folder.told c.publish_entry.new.folder) c.in_ok-staged.ensures c.requires.may c.in_ok-stage_entry.ensures.staged c.in_ok-publish_entry.ensures.replaced)
+
+pub returns-in_err-staged-clause-fits : goal.returns-in_err-staged-clause-fits
+returns-in_err-staged-clause-fits g c = fits_at (g.C.Content.reads c.args.content.now) c.from_residual.result puts.NoMemory c.from_residual.ensures.1 tt
+
+pub returns-in_err-stage_entry-clause-fits : goal.returns-in_err-stage_entry-clause-fits
+returns-in_err-stage_entry-clause-fits g c =
+    fits_at (g.C.Content.reads c.args.content.now) c.from_residual-in_err-stage_entry.result c.in_err-stage_entry.field-0.0 c.from_residual-in_err-stage_entry.ensures.1 c.in_err-stage_entry.ensures.fits
+
+pub returns-in_err-publish_entry-clause-fits : goal.returns-in_err-publish_entry-clause-fits
+returns-in_err-publish_entry-clause-fits g c =
+    let reads = g.C.Content.reads c.args.content.now in
+    fits_at reads c.from_residual-in_err-publish_entry.result _ c.from_residual-in_err-publish_entry.ensures.1 (folder_fits reads c.in_err-publish_entry.field-0.0)

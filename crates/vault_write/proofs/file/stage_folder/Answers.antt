@@ -2,7 +2,7 @@ use Rattle.std.proofs.Common.{[], refl, arith}
 use Rattle.content_writing.specs.Content.{still_coming}
 use Rattle.item_making.specs.Faults.{of_folder}
 use Rattle.item_making.specs.declared.fault.PutFault.TheVariants as puts
-use Rattle.content_writing.proofs.Blaming.{blames_at, folder_blames, folder_undrawn, folder_unread}
+use Rattle.content_writing.proofs.Blaming.{blames_at, fits_at, folder_blames, folder_fits, folder_undrawn, folder_unread}
 use Rattle.folder_model.proofs.Counting.{rose_since}
 use Rattle.vault_spec.specs.Cryptomator.{content_file}
 use Rattle.vault_write.specs.Filing.{StagesEntry}
@@ -21,6 +21,7 @@ returns-in_err-begin_folder g c =
           at_fault (StagesEntry c.args.keys c.args.full.now c.args.staged.now (still_coming (g.C.Content.reads c.args.content.now) (g.F.Folder.told c.args.folder.now) (g.C.Content.coming c.args.content.now)) (still_coming (g.C.Content.reads c.args.content.now) (g.F.Folder.told c.args.folder.now) (g.C.Content.coming c.args.content.now)) (g.R.Randoms.left c.args.random.now) (g.R.Randoms.left c.args.random.now) (g.F.Folder.told c.args.folder.now) (g.F.Folder.told c.begin_folder.new.folder)) c.from_residual.result (of_folder c.in_err-begin_folder.field-0.0) c.from_residual.ensures.1
           (stages_none c.args.keys c.args.full.now c.args.staged.now (still_coming (g.C.Content.reads c.args.content.now) (g.F.Folder.told c.args.folder.now) (g.C.Content.coming c.args.content.now)) (g.R.Randoms.left c.args.random.now) (g.F.Folder.told c.args.folder.now) (g.F.Folder.told c.begin_folder.new.folder) (of_folder c.in_err-begin_folder.field-0.0)
           (stops_folder c.args.keys (untaken (still_coming (g.C.Content.reads c.args.content.now) (g.F.Folder.told c.args.folder.now) (g.C.Content.coming c.args.content.now))) c.in_err-begin_folder.field-0.0) (λ files. (c.in_err-begin_folder.ensures.begun files).0));
+      fits = fits_at (g.C.Content.reads c.args.content.now) result (of_folder fault) by_fault (folder_fits (g.C.Content.reads c.args.content.now) fault);
       reads = refl;
       room = omega arith;
       lender = refl;
@@ -37,6 +38,7 @@ returns-in_err-file g c =
       staged =
           at_fault (StagesEntry c.args.keys c.args.full.now c.args.staged.now (still_coming (g.C.Content.reads c.args.content.now) (g.F.Folder.told c.args.folder.now) (g.C.Content.coming c.args.content.now)) (still_coming (g.C.Content.reads c.args.content.now) (g.F.Folder.told c.args.folder.now) (g.C.Content.coming c.args.content.now)) (g.R.Randoms.left c.args.random.now) (g.R.Randoms.left c.args.random.now) (g.F.Folder.told c.args.folder.now) (g.F.Folder.told c.begin_folder.new.folder)) c.from_residual-in_err-file.result puts.NoMemory c.from_residual-in_err-file.ensures.1
           (stages_none c.args.keys c.args.full.now c.args.staged.now (still_coming (g.C.Content.reads c.args.content.now) (g.F.Folder.told c.args.folder.now) (g.C.Content.coming c.args.content.now)) (g.R.Randoms.left c.args.random.now) (g.F.Folder.told c.args.folder.now) (g.F.Folder.told c.begin_folder.new.folder) puts.NoMemory tt (λ files. (c.in_ok-begin_folder.ensures.begun files).0));
+      fits = fits_at (g.C.Content.reads c.args.content.now) result puts.NoMemory by_fault tt;
       reads = refl;
       room = omega arith;
       lender = refl;
@@ -71,6 +73,7 @@ returns-in_err-write_content g c =
           (g.C.Content.reads c.args.content.now) c.args.staged.now c.in_ok-file.file (g.C.Content.coming c.args.content.now) (g.C.Content.coming c.write_content.new.content) (g.R.Randoms.left c.args.random.now) (g.R.Randoms.left c.write_content.new.random) (g.F.Folder.told c.args.folder.now) (g.F.Folder.told c.begin_folder.new.folder) (g.F.Folder.told c.write_content.new.folder) c.in_ok-file.ensures
           (g.met.F.Folder.sound c.args.folder.now) (g.met.F.Folder.sound c.begin_folder.new.folder) (g.met.F.Folder.sound c.write_content.new.folder) c.requires.apart c.in_ok-begin_folder.ensures.begun
           c.in_err-write_content.field-0.0 c.in_err-write_content.ensures.written);
+      fits = fits_at (g.C.Content.reads c.args.content.now) result fault by_fault e.fits;
       reads = e.reads;
       room = e.room;
       lender = e.lender;
@@ -99,6 +102,7 @@ returns-in_err-stage_name g c =
           (g.C.Content.reads c.args.content.now) c.args.staged.now c.in_ok-file.file (g.C.Content.coming c.args.content.now) (g.C.Content.coming c.write_content.new.content) (g.R.Randoms.left c.args.random.now) (g.R.Randoms.left c.write_content.new.random) (g.F.Folder.told c.args.folder.now) (g.F.Folder.told c.begin_folder.new.folder) (g.F.Folder.told c.write_content.new.folder) c.in_ok-file.ensures
           (g.met.F.Folder.sound c.args.folder.now) (g.met.F.Folder.sound c.begin_folder.new.folder) (g.met.F.Folder.sound c.write_content.new.folder) c.requires.apart c.in_ok-begin_folder.ensures.begun
           c.in_ok-write_content.ensures.written (g.F.Folder.told c.stage_name.new.folder) c.in_err-stage_name.field-0.0 c.in_err-stage_name.ensures.staged);
+      fits = fits_at (g.C.Content.reads c.args.content.now) result (of_folder fault) by_fault (folder_fits (g.C.Content.reads c.args.content.now) fault);
       reads = before.reads;
       room = before.room;
       lender = before.lender;

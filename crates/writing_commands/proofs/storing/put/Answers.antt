@@ -28,7 +28,7 @@ returns-in-Ok-clause-stores g c taken =
     file_made change c.roots_show_their_own.ensures.outside c.roots_show_their_own.ensures.alike c.in-Ok.site.vault c.in-Ok.site.work answer c.put.result
     (g.F.Folder.told c.begin.new.folder) before after content.room.bytes content'.room.bytes content.room.passed content'.room.passed
     (g.met.F.Folder.sound c.args.folder.now) c.in-Ok.ensures.apart c.in-Ok.ensures.root c.in-Ok.ensures.work c.in-Ok.ensures.moments
-    c.in-Ok.ensures.opened c.in-Ok.ensures.entered c.answer_to_making.ensures c.new-content.ensures.room c.new-content.ensures.passed c.put.ensures.made (Keeps-refl taken) in
+    c.in-Ok.ensures.opened c.in-Ok.ensures.entered c.answer_to_making.ensures c.new-content.ensures.room c.new-content.ensures.passed c.put.ensures.made c.put.ensures.fault (Keeps-refl taken) in
     -- the input that the content kept is the one that is given back
     let back : c.input-1.given.0 ≡ content'.source.now = c.input-1.given.1 (sym (c.put.ensures.lender ∙ c.new-content.ensures.lender)) in
     subst (λ source. StoresFile change answer first (record { told = told'; left = g.I.Source.left source; ended = g.I.Source.ended source; taken = taken; random = stream' })) (sym back)
@@ -38,7 +38,7 @@ returns-in-Ok-clause-stores g c taken =
 pub returns-in-Ok-clause-folder_fault : goal.returns-in-Ok-clause-folder_fault
 returns-in-Ok-clause-folder_fault g c = λ is.
     rose_after (g.F.Folder.faults c.args.folder.now) (g.F.Folder.faults c.begin.new.folder) (g.F.Folder.faults c.put.new.folder) c.in-Ok.ensures.grows
-    (c.put.ensures.failed.1 (folder_failed (λ fault. IsFileFault fault) (λ none. none) c.put.result c.put.ensures.fault (sym c.answer_to_making.ensures ∙ is)))
+    (c.put.ensures.failed.1 (folder_failed (λ fault. IsFileFault None fault) (λ none. none) c.put.result c.put.ensures.fault (sym c.answer_to_making.ensures ∙ is)))
 
 pub returns-in-Ok-clause-input_fault : goal.returns-in-Ok-clause-input_fault
 returns-in-Ok-clause-input_fault g c = λ is.

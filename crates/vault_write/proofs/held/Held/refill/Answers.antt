@@ -1,11 +1,13 @@
-use Rattle.std.proofs.Common.{◌≡◌, ◌≤◌, ◌-◌, ℕ, List, [], length, take, drop, Err, Ok, refl, sym, ap, ◌∙◌, subst, arith}
+use Rattle.std.proofs.Common.{◌≡◌, ◌≤◌, ◌-◌, ℕ, List, [], length, take, drop, Some, IfErr, Err, Ok, refl, sym, ap, ◌∙◌, subst, arith}
 use Rattle.std.proofs.lemmas.List.{length-take-le, length-drop}
 use Rattle.std.proofs.lemmas.Result.{err_from_is_err_and}
 use Rattle.vault_read.specs.Contents.{still}
+use Rattle.content_writing.specs.Content.{IsContentFault}
 use Rattle.vault_write.specs.ContentsComing.{held_before}
 use Rattle.item_making.specs.Faults.{of_cat}
 use Rattle.vault_write.specs.HeldChunks.{Refills}
-use Rattle.vault_write.proofs.Refills.{refilled, unfilled}
+use Rattle.vault_write.proofs.Exits.{at_fault}
+use Rattle.vault_write.proofs.Refills.{reader_fault, refilled, unfilled}
 use Rattle.vault_write.proofs.held.Held.refill.Goals as goal
 
 held_size : (start end : ℕ) (chunk : List ℕ) → end ≤ length chunk → length (take (end - start) (drop start chunk)) ≡ end - start
@@ -45,3 +47,8 @@ returns-clause-refills g c =
     (subst (λ (h : List ℕ). Refills (take n c.next.new.out) (held_before at h (still c.args.reader.now.decoding bytes)) (held_before at (take n c.next.new.out) (still c.next.new.self.decoding bytes)) (Ok tt))
     (sym none)
     (refilled at n c.next.new.out (still c.args.reader.now.decoding bytes) (still c.next.new.self.decoding bytes) e.size (e.gives v seen bytes file)))
+
+pub returns-in_err-self-inside-clause-fault : goal.returns-in_err-self-inside-clause-fault
+returns-in_err-self-inside-clause-fault g c =
+    at_fault (λ r. IfErr r (λ fault. IsContentFault (Some c.args.reader.now.at) fault)) c.from_residual.result (of_cat c.in_err-self-inside.field-0.0) c.from_residual.ensures.1
+    (reader_fault c.args.reader.now.at c.in_err-self-inside.field-0.0 c.in_err-self-inside.ensures.fault)

@@ -1,10 +1,12 @@
-use Rattle.std.proofs.Common.{◌≡◌, ◌≤◌, ◌-◌, ℕ, List, length, min, Err, Ok, sym, ap, ◌∙◌, subst, arith}
+use Rattle.std.proofs.Common.{◌≡◌, ◌≤◌, ◌-◌, ℕ, List, length, min, Some, IfErr, Err, Ok, sym, ap, ◌∙◌, subst, arith}
 use Rattle.std.proofs.Math.Nat.{min-le_left, min-le_right}
 use Rattle.std.proofs.lemmas.Result.{err_from_is_err_and}
 use Rattle.folder_spec.specs.View.{Found, FileOf, View}
 use Rattle.folder_spec.specs.Seen.{IsSeen}
 use Rattle.vault_read.specs.Contents.{Reader, Suits, still}
-use Rattle.content_writing.specs.Content.{Gives, IsTold}
+use Rattle.content_writing.specs.Content.{Gives, IsContentFault, IsTold}
+use Rattle.item_making.specs.declared.fault.PutFault.TheVariants as puts
+use Rattle.vault_write.proofs.Exits.{at_fault}
 use Rattle.vault_write.specs.ContentsComing.{coming_read, held_before, held_in}
 use Rattle.vault_write.specs.HeldChunks.{Refills}
 use Rattle.vault_write.proofs.Refills.{GivesPiece, told_suits, read_suits, gives_told, piece_given, piece_failed}
@@ -159,3 +161,12 @@ returns-clause-gives g c =
     subst (λ (x : Found). Gives (Ok c.give-count.result) c.give-count.new.out (coming_read reader room held x) (coming_read reader' (c.take_held.new.self.room - count) c.give-count.new.self x))
     (sym (stands.2 ∙ there.1))
     (piece_given reader reader' room (c.take_held.new.self.room - count) c.args.most count held held1 c.give-count.new.self c.give-count.new.out p there.0 suit refills)
+
+pub returns-in_err-held-clause-fault : goal.returns-in_err-held-clause-fault
+returns-in_err-held-clause-fault g c =
+    at_fault (λ r. IfErr r (λ fault. IsContentFault (Some c.args.self.now.reader.at) fault)) c.from_residual.result puts.NoMemory c.from_residual.ensures.1 (λ none. cc none)
+
+pub returns-in_err-filled-clause-fault : goal.returns-in_err-filled-clause-fault
+returns-in_err-filled-clause-fault g c =
+    at_fault (λ r. IfErr r (λ fault. IsContentFault (Some c.args.self.now.reader.at) fault)) c.from_residual-in_err-filled.result c.in_err-filled.field-0.0 c.from_residual-in_err-filled.ensures.1
+    (subst (λ (r : Reader). IsContentFault (Some r.at) c.in_err-filled.field-0.0) c.in_ok-held.ensures.reader c.in_err-filled.ensures.fault)

@@ -10,7 +10,7 @@ use Rattle.vault_spec.specs.Plan.{Planned, IsPlan}
 use Rattle.vault_spec.specs.declared.Finding.{Finding}
 use Rattle.vault_walk.specs.Levels.{IsMet, IsTargetAmong}
 use Rattle.vault_walk.specs.Report.{is_told}
-use Rattle.vault_walk.specs.Survey.{depth_limit, FoundAt, Precedes, HasTooMany, IsOrdered, IsSurvey, IsTooDeep}
+use Rattle.vault_walk.specs.Survey.{depth_limit, FoundAt, HasEachOnce, Precedes, HasTooMany, IsOrdered, IsSurvey, IsTooDeep}
 use Rattle.vault_walk.specs.Walking.{Way, IsWalked}
 use Rattle.vault_walk.specs.declared.fault.Finding as answer
 use Rattle.vault_walk.specs.declared.fault.WalkFault.{WalkFault}
@@ -40,6 +40,13 @@ pub record IsSurveyed (root : Path) (f : Format) (v : View) (surveyed : Surveyed
 pub record IsPlanOf (root : Path) (f : Format) (v : View) (items : List Planned) : Type 0 where
   pub plan : List Planned
   pub is : IsPlan f v plan
+  pub items_are : items ≡ map (placed root) plan
+
+-- these are the items of a vault in order, each once, also where two ids of directories have one content folder
+pub record ListsEachOnce (root : Path) (f : Format) (v : View) (items : List Planned) : Type 0 where
+  pub plan : List Planned
+  pub once : HasEachOnce f v plan
+  pub ordered : IsOrdered plan
   pub items_are : items ≡ map (placed root) plan
 
 -- the finding that a walk answers: of those that make the vault not clean the first, by path, and at one path by number

@@ -15,7 +15,7 @@ ghost use Rattle.vault_spec.specs.Plan.{Planned};
 ghost use Rattle.vault_spec.specs.Vault.{format_of};
 ghost use Rattle.vault_walk.specs.Found.{found_cmp};
 ghost use Rattle.vault_walk.specs.Survey.{HasTooMany, IsOrdered, item_limit};
-ghost use Rattle.vault_walk.specs.Surveyed.{findings_behind, notes_behind, placed, AreInOrder, ArePlaced, AreTold, HaveMet, IsFirstFinding, IsOnlyTooDeep, IsPlanOf, IsSurveyed, IsSurveyFault, IsWalkFault, IsWithin};
+ghost use Rattle.vault_walk.specs.Surveyed.{findings_behind, notes_behind, placed, AreInOrder, ArePlaced, AreTold, HaveMet, IsFirstFinding, IsOnlyTooDeep, IsPlanOf, IsSurveyed, IsSurveyFault, IsWalkFault, IsWithin, ListsEachOnce};
 ghost use Rattle.vault_walk.specs.Walking as walking;
 
 use crate::apart::found_apart;
@@ -83,6 +83,7 @@ pub fn walk<F: Folder>(alloc: Global, folder: &mut F, vault: &Vault) -> Result<P
     ensures clean { IfOk result (λ plan. IfSeen (F.told folder.old) (λ v. IsClean (format_of vault.now.vault) (under vault.now.root v))) }
     ensures plan { IfOk result (λ plan. IfSeen (F.told folder.old) (λ v. HasOwnFolders vault.now.vault (under vault.now.root v)
         → IsPlanOf vault.now.root (format_of vault.now.vault) (under vault.now.root v) plan.items)) }
+    ensures each { IfOk result (λ plan. IfSeen (F.told folder.old) (λ v. ListsEachOnce vault.now.root (format_of vault.now.vault) (under vault.now.root v) plan.items)) }
     ensures ordered { IfOk result (λ plan. IfSeen (F.told folder.old) (λ v. IsOrdered plan.items)) }
     ensures files { IfOk result (λ plan. IfSeen (F.told folder.old) (λ v. (item : Planned) → Contains plan.items item → item.node ≡ node.File → ShowsFile v item.at)) }
     ensures behind { IfOk result (λ plan. (item : Planned) → Contains plan.items item → (rest : Path) × (item.at ≡ vault.now.root ++ rest)) }

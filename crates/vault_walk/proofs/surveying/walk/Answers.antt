@@ -38,5 +38,9 @@ returns-in-None-clause-plan g c v is own =
     c.in_ok-plan.ensures.plan v is
     (clean_where c.args.vault.now.root (format_of c.args.vault.now.vault) (under c.args.vault.now.root v) c.in_ok-plan.field-0 (c.in_ok-plan.ensures.survey v is) c.in-None.ensures) own
 
+pub returns-in-None-clause-each : goal.returns-in-None-clause-each
+returns-in-None-clause-each g c v is =
+    let s = c.in_ok-plan.ensures.survey v is in record { plan = s.plan; once = s.is.once; ordered = s.is.ordered; items_are = s.items_are }
+
 pub returns-in-None-clause-ordered : goal.returns-in-None-clause-ordered
 returns-in-None-clause-ordered g c v is = placed_in_order c.args.vault.now.root (c.in_ok-plan.ensures.survey v is).plan c.in_ok-plan.field-0.plan.items (c.in_ok-plan.ensures.survey v is).items_are (c.in_ok-plan.ensures.survey v is).is.ordered

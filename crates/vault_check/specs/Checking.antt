@@ -1,8 +1,10 @@
 -- What a check of a vault reports: all findings with the numbers 1 to 13, each damaged content with its first fault, and the notes. Paths
 -- begin at the vault's root.
-use Rattle.std.specs.Prelude.{◌≡◌, ◌↔◌, ◌<◌, ◌++◌, ℕ, List, map, length, Option, Some, None, IsTrue, AllPairs, Contains}
+use Rattle.std.specs.Prelude.{◌≡◌, ◌≢◌, ◌↔◌, ◌<◌, ◌++◌, ℕ, List, map, length, Option, Some, None, IsTrue, AllPairs, Contains}
+use Rattle.std.specs.declared.cmp.Ordering.TheVariants.{Less}
 use Rattle.chunk_files.specs.declared.fault.ChunkFault.{ChunkFault}
 use Rattle.chunk_files.specs.Reading.{Wanting}
+use Rattle.folder_model.specs.Order.{path_cmp}
 use Rattle.folder_spec.specs.Path.{Path}
 use Rattle.folder_spec.specs.View.{View, FileOf}
 use Rattle.vault_read.specs.Contents.{limited_reading}
@@ -56,8 +58,9 @@ pub record IsTooLong (f : Format) (v : View) (at : Path) : Type 0 where
   pub longer : content_limit < length bytes
   pub faultless : (limited_reading f.content bytes).ending ≡ Wanting
 
--- a path of the folder with such a file
+-- of such files the one whose path in the folder is first
 pub record NamesTooLong (root : Path) (f : Format) (v : View) (named : Path) : Type 0 where
   pub at : Path
   pub place : named ≡ root ++ at
   pub is : IsTooLong f v at
+  pub first : (other : Path) → IsTooLong f v other → path_cmp (root ++ other) named ≢ Less

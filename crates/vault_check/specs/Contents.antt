@@ -1,9 +1,9 @@
 -- Reading the content files of a vault for their faults (private contracts only).
-use Rattle.std.specs.Prelude.{◌≡◌, ◌↔◌, ◌++◌, ◌∷◌, [], ℕ, List, Option, Some, None, Result, Ok, Err, AllPairs, Contains}
+use Rattle.std.specs.Prelude.{◌≡◌, ◌↔◌, ◌<◌, ◌++◌, ◌∷◌, [], ℕ, List, get_or, length, take, Option, Some, None, Result, Ok, Err, AllPairs, Contains}
 use Rattle.std.specs.List.{filter_map}
 use Rattle.std.specs.declared.cmp.Ordering.TheVariants.{Less}
 use Rattle.chunk_files.specs.declared.fault.ChunkFault.{ChunkFault}
-use Rattle.chunk_files.specs.Reading.{Ending, Whole, Faulty}
+use Rattle.chunk_files.specs.Reading.{Ending, Whole, Wanting, Faulty}
 use Rattle.folder_model.specs.Order.{path_cmp}
 use Rattle.folder_spec.specs.Path.{Path}
 use Rattle.folder_spec.specs.Event.{Told}
@@ -67,6 +67,14 @@ pub data TellsDamage (f : Format) (v : View) : List Path → List Finding → Ty
   NoContent : TellsDamage f v [] []
   Content : (at : Path) (contents : List Path) (fault : Option ChunkFault) (found : List Finding) → TellsDamage f v contents found → EndsAs f v at (ending_of fault)
       → TellsDamage f v (contents ++ at ∷ []) (found ++ told_damage at fault)
+
+-- of these contents the one there is the first of which reading ends at the limit
+pub record EndsFirst (f : Format) (v : View) (contents : List Path) (at : Path) : Type 0 where
+  pub place : ℕ
+  pub inside : place < length contents
+  pub is : at ≡ get_or contents place at
+  pub ends : EndsAs f v at Wanting
+  pub before : (other : Path) → Contains (take place contents) other → ¬ EndsAs f v other Wanting
 
 abbrev pub HasRead : Option Told → Format → List Path → List Finding → Type 0
 HasRead told f contents found = IfSeen told (λ v. TellsDamage f v contents found)

@@ -30,8 +30,8 @@ pub struct Report {
 
 /// The findings and the notes of a vault, with the first fault of each damaged content.
 ///
-/// Findings are in order of their paths, and at one path of their numbers. Notes are in order of their paths. All contents are read, and
-/// one of more than 2^40 bytes without a fault in these is a limit.
+/// Findings are in order of their paths, and at one path of their numbers. Notes are in order of their paths. All contents are read, in order of their paths, and
+/// the first of more than 2^40 bytes without a fault in these is a limit.
 pub fn check<F: Folder>(alloc: Global, folder: &mut F, vault: &Vault) -> Result<Report, CheckFault>
     ensures looks { OnlyLooks (F.told folder.old) (F.told folder.new) (result ≡ Err CheckFault.Failed) (F.faults folder.old) (F.faults folder.new) }
     ensures report { IfOk result (λ report. IfSeen (F.told folder.old) (λ v. IsReport vault.now.root (format_of vault.now.vault) (under vault.now.root v) report)) }

@@ -8,7 +8,7 @@ ghost use Rattle.vault_faults.specs.declared.fault.Limit.TheVariants.{Length};
 ghost use Rattle.vault_read.specs.Contents.{IsBeingRead, Suits, limited_reading, still};
 ghost use Rattle.vault_spec.specs.Findings.{finding_of, number_of};
 ghost use Rattle.vault_spec.specs.Vault.{format_of};
-ghost use Rattle.vault_check.specs.Contents.{AreContentsOf, EndsAs, HasRead, IsContentFault, StillEnds, content_of, ended_by, ending_of, told_damage};
+ghost use Rattle.vault_check.specs.Contents.{AreContentsOf, EndsAs, EndsFirst, HasRead, IsContentFault, StillEnds, content_of, ended_by, ending_of, told_damage};
 
 use crate::fault::CheckFault;
 use crate::order::paths_in_order;
@@ -52,8 +52,7 @@ pub(crate) fn damaged_contents<F: Folder>(
     requires { IfSeen (F.told folder.old) (λ v. (at : Path) → Contains contents.now at → ShowsFile v at) }
     ensures looks { OnlyLooks (F.told folder.old) (F.told folder.new) (result ≡ Err CheckFault.Failed) (F.faults folder.old) (F.faults folder.new) }
     ensures damaged { IfOk result (λ damaged. HasRead (F.told folder.old) (format_of vault.now.vault) contents.now damaged.items) }
-    ensures length { (named : Path) → result ≡ Err (CheckFault.Limit (Length named)) → Contains contents.now named
-        × (IfSeen (F.told folder.old) (λ v. EndsAs (format_of vault.now.vault) v named Wanting)) }
+    ensures length { (named : Path) → result ≡ Err (CheckFault.Limit (Length named)) → IfSeen (F.told folder.old) (λ v. EndsFirst (format_of vault.now.vault) v contents.now named) }
     ensures fault { IfErr result (λ fault. IsContentFault fault) }
 {
     let mut chunk = ChunkBuf::new(alloc)?;

@@ -8,7 +8,7 @@ use Rattle.vault_spec.specs.Vault.{format_of}
 use Rattle.vault_faults.specs.declared.fault.Limit.TheVariants as limit
 use Rattle.vault_check.specs.declared.fault.CheckFault.TheVariants as check
 use Rattle.vault_check.specs.Answers.{IsCheckFault, of_walk}
-use Rattle.vault_check.specs.Contents.{IsContentFault, TellsDamage}
+use Rattle.vault_check.specs.Contents.{EndsFirst, IsContentFault, TellsDamage}
 use Rattle.vault_check.proofs.Damages.{contents_there, none_too_long, too_long}
 use Rattle.folder_model.proofs.ByFault.{at_fault, one_fault}
 use Rattle.vault_check.proofs.Faults.{content_fault, survey_fault}
@@ -45,10 +45,11 @@ returns-in_err-damaged-clause-length g c = λ at is v seen.
     let s = c.in_ok-plan.ensures.survey v seen in
     let p = err_from_is_err_and c.from_residual-in_err-damaged.result c.from_residual-in_err-damaged.ensures.1 in
     let same : p.0 ≡ check.Limit (limit.Length at) = (let whole = sym p.1 ∙ is in cc) in
-    let told = c.in_err-damaged.ensures.length at (ap Err (sym p.2 ∙ same)) in
+    let first = c.in_err-damaged.ensures.length at (ap Err (sym p.2 ∙ same)) v (subst (λ t. IsSeen t v) (sym c.in_ok-plan.ensures.looks.told) seen) in
     too_long root f v s.plan c.as_slice.result.now s.is.once (c.as_slice.ensures ∙ s.items_are) c.in_ok-contents.contents.items c.in_ok-contents.ensures
-    (λ path some q stands. c.what_stands_is_found_step_by_step.ensures.below f (under root v) path q some (ap place_of stands)) at
-    (subst (λ xs. Contains xs at) c.as_slice-2.ensures.value told.0) (told.1 v (subst (λ t. IsSeen t v) (sym c.in_ok-plan.ensures.looks.told) seen))
+    (λ path some q stands. c.what_stands_is_found_step_by_step.ensures.below f (under root v) path q some (ap place_of stands))
+    (λ front dir name leads. c.what_stands_is_found_step_by_step.ensures.behind f (under root v) front dir name leads) at
+    (subst (λ xs. EndsFirst f v xs at) c.as_slice-2.ensures.value first)
 
 pub returns-clause-report : goal.returns-clause-report
 returns-clause-report g c = λ v seen.

@@ -1,12 +1,12 @@
 use Rattle.std.proofs.Common.{◌≡◌, Err, Contains, [], ◌∙◌, take, refl, sym, ap, subst, subst₂, arith}
 use Rattle.std.proofs.lemmas.Result.{err_from_is_err_and}
-use Rattle.chunk_files.specs.Reading.{Wanting}
 use Rattle.folder_spec.specs.Seen.{IsSeen}
 use Rattle.vault_spec.specs.Vault.{format_of}
 use Rattle.vault_faults.specs.declared.fault.Limit.TheVariants as limit
-use Rattle.vault_check.specs.Contents.{EndsAs, TellsDamage, NoContent, Content}
+use Rattle.vault_check.specs.Contents.{EndsFirst, TellsDamage, NoContent, Content}
 use Rattle.vault_check.specs.declared.fault.CheckFault.TheVariants as check
 use Rattle.vault_check.proofs.Contained.{front_more}
+use Rattle.vault_check.proofs.Damages.{ended_otherwise}
 use Rattle.vault_check.proofs.contents.damaged_contents.Goals as goal
 
 pub loop-at-init : goal.loop-at-init
@@ -37,11 +37,16 @@ loop-at-preserved g c =
 
 pub returns-in_err-fault-clause-length : goal.returns-in_err-fault-clause-length
 returns-in_err-fault-clause-length g c = λ named is.
-    let at = c.at-item.result in
     let p = err_from_is_err_and c.from_residual-in_err-fault.result c.from_residual-in_err-fault.ensures.1 in
     let same : p.0 ≡ check.Limit (limit.Length named) = (let whole = sym p.1 ∙ is in cc) in
-    let told = c.in_err-fault.ensures.length named (ap Err (sym p.2 ∙ same)) in (
-      subst (λ x. Contains c.args.contents.now x) (sym told.0) (c.loop-at.at-index, c.loop-at-test.true, sym c.at-item.is),
-      λ v seen. subst (λ x. EndsAs (format_of c.args.vault.now.vault) v x Wanting) (sym told.0)
-          (told.1 v (subst (λ t. IsSeen t v) (sym c.loop-at.invariant.told) seen)),
-    )
+    let told = c.in_err-fault.ensures.length named (ap Err (sym p.2 ∙ same)) in
+    let f = format_of c.args.vault.now.vault in
+    let k = c.loop-at.at-index in
+    let contents = c.args.contents.now in
+    λ v seen. subst (EndsFirst f v contents) (sym told.0) (record {
+      place = k;
+      inside = c.loop-at-test.true;
+      is = c.at-item.is;
+      ends = told.1 v (subst (λ t. IsSeen t v) (sym c.loop-at.invariant.told) seen);
+      before = λ other there. ended_otherwise f v (take k contents) c.loop-at.damaged.items (c.loop-at.invariant.read v seen) other there;
+    })

@@ -2,12 +2,13 @@ mod Contained
 mod Damages
 mod Endings
 mod FindingOrders
+mod MadeCalls
 mod MovedStates
 mod MovedTables
 mod Opening
 mod Planned
 mod ReadFronts
-mod Repaired
+pub mod Repaired
 mod Reports
 mod StraysFound
 mod StraysGathered

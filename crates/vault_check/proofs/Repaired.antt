@@ -1,11 +1,12 @@
 -- A repair: that strays may be moved, and what is told of their moving.
-use Rattle.std.proofs.Common.{◌≡◌, ◌≢◌, inl, inr, List, [], ◌∷◌, ◌++◌, get_or, Option, Some, None, IfSome, Contains, AllPairs, refl, sym, ap, ◌∙◌, subst, append_assoc, append-nil, arith}
+use Rattle.std.proofs.Common.{◌≡◌, ◌≢◌, inl, inr, List, [], ◌∷◌, ◌++◌, get_or, Option, Some, None, IfSome, Result, Ok, Err, OnOk, Contains, AllPairs, refl, sym, ap, ◌∙◌, subst, append_assoc, append-nil, arith}
 use Rattle.std.specs.declared.cmp.Ordering.TheVariants.{Less, Equal}
 use Rattle.std.specs.Cmp.Lexicographic.{lists_total, nat_list_cmp_total}
 use Rattle.std.proofs.lemmas.Cmp.{tied_itself}
 use Rattle.std.specs.Ordering.{ordering_reverse}
 use Rattle.std.proofs.lemmas.List.Elements.{Contains-get_or}
 use Rattle.folder_model.specs.Order.{path_cmp}
+use Rattle.folder_spec.specs.declared.FolderFault.{FolderFault}
 use Rattle.folder_spec.specs.Path.{Path, below}
 use Rattle.folder_spec.specs.State.{State, present}
 use Rattle.folder_spec.specs.Event.{IsFree, Told, FromTo}
@@ -18,9 +19,10 @@ use Rattle.folder_spec.proofs.Seen.{free_seen}
 use Rattle.folder_spec.proofs.Tellings.{from_to_both, from_to_more, from_to_same}
 use Rattle.vault_spec.specs.Format.{Format}
 use Rattle.vault_spec.specs.Moving.{IsStray, StraysGoAlone}
-use Rattle.vault_check.specs.Repairing.{AreMovable, AreMoved, AreStraysBehind, HasRepaired, IsMoving, IsRepairing, Unchanged, Moving, MayMoveTo, Moves, MovesInto, RepairsAt}
+use Rattle.vault_check.specs.Repairing.{AreMovable, AreMoved, AreStraysBehind, HasMadeAll, HasMovedAll, HasNoStrays, HasRepaired, IsMoving, IsRepairing, Unchanged, Moving, MayMoveTo, Moves, MovesInto, RepairsAt, StopsIn, StopsMoving, behind, moving_calls, repair_calls}
 use Rattle.folder_spec.specs.Apart.{AreApart}
 use Rattle.vault_spec.proofs.Mapped.{all_pairs_mapped, mapped_from}
+use Rattle.vault_check.proofs.MadeCalls.{some_strays}
 
 none_or : (w q : Path) → ((rest : Path) → q ≡ w ++ rest → ⊥) → below w q ≡ None
 none_or w q apart = elim (begins_or_not w q) as (λ _. below w q ≡ None) [ inl k ↦ absurd (apart k.0 k.1) | inr none ↦ none ]
@@ -79,14 +81,30 @@ module _ (root lost : Path) (f : Format) (alone : StraysGoAlone f) (v : View) (m
         end_of [] p e = e
         end_of (a ∷ r) p e = cc
 
+-- a vault without strays
+pub none_behind : (root : Path) (f : Format) (v : View) (paths : List Path) → AreStraysBehind root f v paths → HasNoStrays f v → paths ≡ []
+none_behind root f v paths are none = are.behind_root ∙ ap (behind root) (by are.strays (λ at there. none at ((are.are.each at).0 there).stray))
+  where
+    by : (strays : List Path) → ((at : Path) → ¬ Contains strays at) → strays ≡ []
+    by [] empty = refl
+    by (s ∷ strays) empty = absurd (empty s (0, omega arith, refl))
+
+-- each call was done, of some strays
+pub all_of_some : (lost : Path) (paths : List Path) (t u : Option Told) (result : Result (Unit {0}) FolderFault) → paths ≢ [] → OnOk result (FromTo (HasMovedAll lost paths) t u)
+    → OnOk result (FromTo (HasMadeAll (repair_calls lost paths)) t u)
+all_of_some lost paths t u (Err fault) some h = tt
+all_of_some lost paths t u (Ok done) some h =
+    subst (λ calls. FromTo (HasMadeAll calls) t u) (some_strays lost paths some)
+    (from_to_more (HasMovedAll lost paths) (HasMadeAll (moving_calls lost paths)) t u (λ a b is k. k.all) h)
+
 -- ---- of a folder that may tell nothing
 
 module _ (root lost : Path) (f : Format) where
   abbrev Goes : Told → Told → Type 0
-  Goes a b = Went (IsRepairing root f lost a.state) (λ s e. MovesInto lost e.call) a b
+  Goes a b = Went (IsRepairing root f lost a.state) (λ s e. MovesInto lost s e.call) a b
 
   pub repairs_none : (t u : Option Told) → u ≡ t → RepairsAt root f lost t u
-  repairs_none t u same = from_to_same Goes t u same (λ a. went_nowhere (IsRepairing root f lost a.state) (λ s e. MovesInto lost e.call) a (Unchanged refl))
+  repairs_none t u same = from_to_same Goes t u same (λ a. went_nowhere (IsRepairing root f lost a.state) (λ s e. MovesInto lost s e.call) a (Unchanged refl))
 
   module _ (paths : List Path) (t : Option Told) (are : IfSeen t (λ v. AreStraysBehind root f (under root v) paths)) where
     are_at : (a : Told) → t ≡ Some a → AreStraysBehind root f (under root (seen a.state)) paths
@@ -94,16 +112,38 @@ module _ (root lost : Path) (f : Format) where
 
     pub repairs_by : (t1 u : Option Told) → t1 ≡ t → Moves lost paths t1 u → RepairsAt root f lost t u
     repairs_by t1 u same moves =
-        from_to_more (λ a b. Went (IsMoving lost paths a.state) (λ s e. MovesInto lost e.call) a b) Goes t u
-        (λ a b is went. went_more (IsMoving lost paths a.state) (IsRepairing root f lost a.state) (λ s e. MovesInto lost e.call) (λ s e. MovesInto lost e.call) a b
+        from_to_more (λ a b. Went (IsMoving lost paths a.state) (λ s e. MovesInto lost s e.call) a b) Goes t u
+        (λ a b is went. went_more (IsMoving lost paths a.state) (IsRepairing root f lost a.state) (λ s e. MovesInto lost s e.call) (λ s e. MovesInto lost s e.call) a b
         (λ s moving. Moving paths (are_at a is) moving) (λ s e k. k) went) (subst (λ o. Moves lost paths o u) same moves)
+
+    -- nothing to move
+    pub repaired_none : paths ≡ [] → FromTo (λ a b. AreMoved root f lost paths a b) t t
+    repaired_none none =
+        from_to_more (λ a b. b ≡ a) (λ a b. AreMoved root f lost paths a b) t t
+        (λ a b is same. subst (λ c. AreMoved root f lost paths a c) (sym same)
+        (record { are = are_at a is; repaired = record { nothing = λ _. refl; moves = λ some. absurd (some none); settled = λ some. absurd (some none) }; unwritten = refl }))
+        (from_to_same (λ a b. b ≡ a) t t refl (λ a. refl))
+
+    pub stops_by : (t1 u : Option Told) → t1 ≡ t → FromTo (StopsIn (repair_calls lost paths)) t1 u → FromTo (StopsMoving root f lost) t u
+    stops_by t1 u same stops =
+        from_to_more (StopsIn (repair_calls lost paths)) (StopsMoving root f lost) t u (λ a b is k. record { strays = paths; are = are_at a is; stops = k })
+        (subst (λ o. FromTo (StopsIn (repair_calls lost paths)) o u) same stops)
 
     pub repaired_by : (t1 u : Option Told) → t1 ≡ t → Moves lost paths t1 u → FromTo (λ a b. HasRepaired lost paths a.state b.state) t1 u → FromTo (λ a b. AreMoved root f lost paths a b) t u
     repaired_by t1 u same moves h =
-        from_to_more (λ a b. Went (IsMoving lost paths a.state) (λ s e. MovesInto lost e.call) a b × HasRepaired lost paths a.state b.state) (λ a b. AreMoved root f lost paths a b) t u
-        (λ a b is k. record { are = are_at a is; repaired = k.1; unwritten = (went_to (IsMoving lost paths a.state) (λ s e. MovesInto lost e.call) a b k.0).nodes })
-        (subst (λ o. FromTo (λ a b. Went (IsMoving lost paths a.state) (λ s e. MovesInto lost e.call) a b × HasRepaired lost paths a.state b.state) o u) same
-        (from_to_both (λ a b. Went (IsMoving lost paths a.state) (λ s e. MovesInto lost e.call) a b) (λ a b. HasRepaired lost paths a.state b.state) t1 u moves h))
+        from_to_more (λ a b. Went (IsMoving lost paths a.state) (λ s e. MovesInto lost s e.call) a b × HasRepaired lost paths a.state b.state) (λ a b. AreMoved root f lost paths a b) t u
+        (λ a b is k. record { are = are_at a is; repaired = k.1; unwritten = (went_to (IsMoving lost paths a.state) (λ s e. MovesInto lost s e.call) a b k.0).nodes })
+        (subst (λ o. FromTo (λ a b. Went (IsMoving lost paths a.state) (λ s e. MovesInto lost s e.call) a b × HasRepaired lost paths a.state b.state) o u) same
+        (from_to_both (λ a b. Went (IsMoving lost paths a.state) (λ s e. MovesInto lost s e.call) a b) (λ a b. HasRepaired lost paths a.state b.state) t1 u moves h))
+
+    -- what was moved, if there was something
+    pub repaired_all : paths ≢ [] → (u : Option Told) (result : Result (Unit {0}) FolderFault) → Moves lost paths t u → OnOk result (FromTo (HasMovedAll lost paths) t u)
+        → OnOk result (FromTo (λ a b. AreMoved root f lost paths a b) t u)
+    repaired_all some u (Err fault) moves h = tt
+    repaired_all some u (Ok done) moves h =
+        repaired_by t u refl moves
+        (from_to_more (HasMovedAll lost paths) (λ a b. HasRepaired lost paths a.state b.state) t u
+        (λ a b is k. record { nothing = λ none. absurd (some none); moves = λ _. k.moved; settled = λ _. k.settled }) h)
 
     module _ (alone : StraysGoAlone f) (may : IfSeen t (λ v. MayMoveTo v root lost)) where
       pub all_movable : (t1 : Option Told) → t1 ≡ t → IfSome t1 (λ a. AreMovable lost paths (present a.state))

@@ -11,4 +11,4 @@ mod strays;
 
 pub use checking::{Report, check};
 pub use fault::CheckFault;
-pub use repairing::repair;
+pub use repairing::{move_strays, repair, strays_of};

@@ -1,59 +1,62 @@
-use Rattle.std.proofs.Common.{◌≡◌, [], Ok, Err, Result, OnOk}
-use Rattle.folder_spec.specs.declared.FolderFault.{FolderFault}
-use Rattle.folder_spec.specs.Event.{Changes, FromTo, Settle}
-use Rattle.folder_spec.specs.State.{present}
-use Rattle.vault_check.specs.Repairing.{HasMoved}
-use Rattle.vault_check.proofs.MovedStates.{HasGone, bare_now, made_gone, made_moments, moments_since, movable_now, moved_all, settled_all, settled_moments}
+use Rattle.std.proofs.Common.{◌≡◌, ◌≢◌, ◌<◌, [], IfErr, length, refl, rules, sym, subst}
+use Rattle.folder_spec.specs.Event.{FromTo}
+use Rattle.vault_spec.specs.Vault.{format_of}
+use Rattle.vault_check.specs.Repairing.{HasMadeAll, StopsIn, repair_calls}
+use Rattle.vault_check.proofs.MadeCalls.{all_none, none_by_size, some_by_size, some_strays}
+use Rattle.vault_check.proofs.Repaired.{all_movable, all_of_some, is_free, repaired_all, repaired_none, repairs_by, repairs_none}
 use Rattle.vault_check.proofs.repairing.move_strays.Goals as goal
 
-pub move_each-requires : goal.move_each-requires
-move_each-requires g c =
+pub move_all-requires : goal.move_all-requires
+move_all-requires g c =
+    let root = c.args.vault.now.root in
     let lost = c.args.lost.now in
-    let strays = c.args.strays.now in
+    let f = format_of c.args.vault.now.vault in
     let t0 = g.F.Folder.told c.args.folder.now in
-    let t1 = g.F.Folder.told c.make_dir.new.self in
-    let begun : FromTo (HasGone lost strays 0) t0 t1
-    = made_gone lost strays t0 t1 (g.met.F.Folder.sound c.args.folder.now) c.requires.free c.in_ok-make_dir.field-0 c.in_ok-make_dir.ensures.changes in
-    record { bare = bare_now lost strays t0 t1 begun; strays = movable_now lost strays t0 t1 c.requires.strays begun }
+    let alone = c.strays_go_alone.ensures c.args.vault.now.vault in
+    record {
+      free = is_free root lost f c.args.strays.now t0 c.requires.strays alone c.requires.place t0 refl;
+      strays = all_movable root lost f c.args.strays.now t0 c.requires.strays alone c.requires.place t0 refl;
+    }
 
-pub returns-in_err-make_dir-clause-moments : goal.returns-in_err-make_dir-clause-moments
-returns-in_err-make_dir-clause-moments g c =
-    made_moments c.args.lost.now c.args.strays.now (g.F.Folder.told c.args.folder.now) (g.F.Folder.told c.make_dir.new.self) (g.met.F.Folder.sound c.args.folder.now) c.requires.free
-    c.make_dir.result c.make_dir.ensures.changes
+pub returns-then-is_empty-clause-moments : goal.returns-then-is_empty-clause-moments
+returns-then-is_empty-clause-moments g c =
+    let t0 = g.F.Folder.told c.args.folder.now in repairs_none c.args.vault.now.root c.args.lost.now (format_of c.args.vault.now.vault) t0 t0 refl
 
-pub returns-in_err-move_each-clause-moments : goal.returns-in_err-move_each-clause-moments
-returns-in_err-move_each-clause-moments g c =
-    let lost = c.args.lost.now in
-    let strays = c.args.strays.now in
+pub returns-then-is_empty-clause-moved : goal.returns-then-is_empty-clause-moved
+returns-then-is_empty-clause-moved g c =
+    let size : length c.args.strays.now ≡ 0 = search rules in
+    let none : c.args.strays.now ≡ [] = none_by_size c.args.strays.now size in
+    repaired_none c.args.vault.now.root c.args.lost.now (format_of c.args.vault.now.vault) c.args.strays.now (g.F.Folder.told c.args.folder.now) c.requires.strays none
+
+pub returns-then-is_empty-clause-all : goal.returns-then-is_empty-clause-all
+returns-then-is_empty-clause-all g c =
+    let size : length c.args.strays.now ≡ 0 = search rules in
+    let none : c.args.strays.now ≡ [] = none_by_size c.args.strays.now size in
     let t0 = g.F.Folder.told c.args.folder.now in
-    let t1 = g.F.Folder.told c.make_dir.new.self in
-    let begun : FromTo (HasGone lost strays 0) t0 t1
-    = made_gone lost strays t0 t1 (g.met.F.Folder.sound c.args.folder.now) c.requires.free c.in_ok-make_dir.field-0 c.in_ok-make_dir.ensures.changes in
-    moments_since lost strays t0 t1 (g.F.Folder.told c.move_each.new.folder) c.requires.strays begun c.move_each.ensures.moments
+    subst (λ paths. FromTo (HasMadeAll (repair_calls c.args.lost.now paths)) t0 t0) (sym none) (all_none t0)
 
 pub returns-clause-moments : goal.returns-clause-moments
 returns-clause-moments g c =
-    let lost = c.args.lost.now in
-    let strays = c.args.strays.now in
     let t0 = g.F.Folder.told c.args.folder.now in
-    let t1 = g.F.Folder.told c.make_dir.new.self in
-    let t2 = g.F.Folder.told c.move_each.new.folder in
-    let begun : FromTo (HasGone lost strays 0) t0 t1
-    = made_gone lost strays t0 t1 (g.met.F.Folder.sound c.args.folder.now) c.requires.free c.in_ok-make_dir.field-0 c.in_ok-make_dir.ensures.changes in
-    settled_moments lost strays c.settle.result t0 t2 (g.F.Folder.told c.settle.new.self) (moments_since lost strays t0 t1 t2 c.requires.strays begun c.move_each.ensures.moments) c.settle.ensures.changes
+    repairs_by c.args.vault.now.root c.args.lost.now (format_of c.args.vault.now.vault) c.args.strays.now t0 c.requires.strays t0 (g.F.Folder.told c.move_all.new.folder) refl
+    c.move_all.ensures.moments
 
-pub returns-clause-settled : goal.returns-clause-settled
-returns-clause-settled g c = by_result c.settle.result c.settle.ensures.changes
-  where
-    by_result : (result : Result (Unit {0}) FolderFault) → Changes Settle (g.F.Folder.told c.move_each.new.folder) (g.F.Folder.told c.settle.new.self) result
-        → OnOk result (FromTo (λ a b. HasMoved c.args.lost.now c.args.strays.now (present b.state) (present a.state) × (b.state.later ≡ [])) (g.F.Folder.told c.args.folder.now) (g.F.Folder.told c.settle.new.self))
-    by_result (Err fault) changes = tt
-    by_result (Ok done) changes =
-        let lost = c.args.lost.now in
-        let strays = c.args.strays.now in
-        let t0 = g.F.Folder.told c.args.folder.now in
-        let t1 = g.F.Folder.told c.make_dir.new.self in
-        let t2 = g.F.Folder.told c.move_each.new.folder in
-        let begun : FromTo (HasGone lost strays 0) t0 t1
-        = made_gone lost strays t0 t1 (g.met.F.Folder.sound c.args.folder.now) c.requires.free c.in_ok-make_dir.field-0 c.in_ok-make_dir.ensures.changes in
-        settled_all lost strays done t0 t2 (g.F.Folder.told c.settle.new.self) (moved_all lost strays t0 t1 t2 c.requires.strays begun c.in_ok-move_each.ensures.moved) changes
+pub returns-clause-moved : goal.returns-clause-moved
+returns-clause-moved g c =
+    let size : 0 < length c.args.strays.now = search rules in
+    let some : c.args.strays.now ≢ [] = some_by_size c.args.strays.now size in
+    repaired_all c.args.vault.now.root c.args.lost.now (format_of c.args.vault.now.vault) c.args.strays.now (g.F.Folder.told c.args.folder.now) c.requires.strays some
+    (g.F.Folder.told c.move_all.new.folder) c.move_all.result c.move_all.ensures.moments c.move_all.ensures.moved
+
+pub returns-clause-stops : goal.returns-clause-stops
+returns-clause-stops g c =
+    let size : 0 < length c.args.strays.now = search rules in
+    let some : c.args.strays.now ≢ [] = some_by_size c.args.strays.now size in
+    subst (λ calls. IfErr c.move_all.result (λ _. FromTo (StopsIn calls) (g.F.Folder.told c.args.folder.now) (g.F.Folder.told c.move_all.new.folder)))
+    (some_strays c.args.lost.now c.args.strays.now some) c.move_all.ensures.stops
+
+pub returns-clause-all : goal.returns-clause-all
+returns-clause-all g c =
+    let size : 0 < length c.args.strays.now = search rules in
+    let some : c.args.strays.now ≢ [] = some_by_size c.args.strays.now size in
+    all_of_some c.args.lost.now c.args.strays.now (g.F.Folder.told c.args.folder.now) (g.F.Folder.told c.move_all.new.folder) c.move_all.result some c.move_all.ensures.moved

@@ -2,7 +2,7 @@ use Rattle.std.proofs.Common.{◌∙◌}
 use Rattle.vault_spec.specs.Vault.{format_of}
 use Rattle.folder_spec.specs.Seen.{under}
 use Rattle.vault_check.proofs.StraysFound.{strays_found}
-use Rattle.vault_check.proofs.repairing.found_strays.Goals as goal
+use Rattle.vault_check.proofs.repairing.strays_of.Goals as goal
 
 pub returns-clause-strays : goal.returns-clause-strays
 returns-clause-strays g c = λ v seen.

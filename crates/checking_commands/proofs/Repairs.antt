@@ -1,9 +1,14 @@
 -- What `repair` did, from what its parts say.
-use Rattle.std.proofs.Common.{◌≡◌, ℕ, true, false, List, [], Option, inl, inr, refl, sym, ◌∙◌, subst}
+use Rattle.std.proofs.Common.{◌≡◌, ℕ, ◌≤◌, true, false, List, [], Option, Result, Ok, Err, IfOk, IfErr, inl, inr, refl, sym, ◌∙◌, subst}
 use Rattle.std.specs.Prelude.{◌⊎◌, IsTrue}
 use Rattle.std.proofs.lemmas.Bool.{or_left}
 use Rattle.std.specs.Io.KnownBytes.{Keeps}
 use Rattle.std.proofs.KnownBytes.{Keeps-refl}
+use Rattle.port_model.specs.Counts.{CountRose}
+use Rattle.folder_model.specs.Answers.{CountsAbove}
+use Rattle.folder_model.proofs.Counting.{rose_since}
+use Rattle.folder_spec.specs.declared.FolderFault.{FolderFault as Fault}
+use Rattle.folder_spec.specs.declared.FolderFault.TheVariants as folder
 use Rattle.folder_spec.specs.Path.{Path, parent}
 use Rattle.folder_spec.specs.Event.{Told, FromTo}
 use Rattle.folder_spec.specs.Image.{Image, IsImage}
@@ -18,8 +23,9 @@ use Rattle.vault_faults.specs.declared.fault.Limit.TheVariants as limited
 use Rattle.vault_spec.specs.Vault.{Vault, Either, format_of}
 use Rattle.vault_walk.specs.Survey.{HasTooMany}
 use Rattle.vault_walk.specs.Surveyed.{IsOnlyTooDeep}
-use Rattle.vault_check.specs.Answers.{IsRepairFault}
-use Rattle.vault_check.specs.Repairing.{AreMoved, IsRepairing, RepairsAt}
+use Rattle.vault_spec.specs.Format.{Format}
+use Rattle.vault_check.specs.Answers.{IsRepairFault, of_folder}
+use Rattle.vault_check.specs.Repairing.{AreMoved, HasMadeAll, HasNoStrays, IsRepairing, RepairsAt, StopsMoving, repair_calls}
 use Rattle.folder_spec.specs.Apart.{AreApart}
 use Rattle.vault_check.specs.declared.fault.CheckFault.{CheckFault}
 use Rattle.vault_check.specs.declared.fault.CheckFault.TheVariants as check
@@ -27,7 +33,7 @@ use Rattle.checking_commands.specs.Faults.{of_check}
 use Rattle.open_for_reading.specs.Opening.{Opens}
 use Rattle.open_for_reading.specs.Refusing.{Unless, RefusesOpening}
 use Rattle.open_for_reading.specs.Places.{OfDirectory, OfMissing, OfFree, overlap, RefusesOverlap}
-use Rattle.checking_commands.specs.Repair.{IsOfMoving, Moved, TooMany, TooDeep, OfRepairing, OpensFree, MovesStrays, HasMovedStrays, RepairsApart, RepairsVault, is_of_test, moved_text}
+use Rattle.checking_commands.specs.Repair.{IsOfMoving, Moved, TooMany, TooDeep, OfRepairing, OpensFree, MovesStrays, HasMovedStrays, HasStopped, TellsMoved, TellsMovedStrays, RepairsApart, RepairsVault, is_of_test, moved_text}
 use Rattle.open_for_reading.specs.Tests.{is_of_moving}
 use Rattle.command_answers.specs.Printing.{PrintsText}
 use Rattle.open_for_reading.proofs.Printings.{IsPrinted, nothing_printed, printed, printed_is_own}
@@ -35,7 +41,7 @@ use Rattle.open_for_reading.proofs.Overlaps.{apart_by, refuses_overlap}
 use Rattle.open_for_reading.specs.Shown.{IsCutShort, is_of_end, refused}
 use Rattle.open_for_reading.specs.World.{World}
 use Rattle.command_answers.specs.declared.answer.Answer.{Answer}
-use Rattle.command_answers.specs.declared.answer.Answer.TheVariants.{Done, OutOfMemory, OutputFault, Overlap}
+use Rattle.command_answers.specs.declared.answer.Answer.TheVariants.{Done, FolderFault, OutOfMemory, OutputFault, Overlap}
 use Rattle.command_words.specs.declared.commands.Repairing.{Repairing}
 use Rattle.open_for_reading.proofs.Refusals.{opened_gives, opened_is, unless_opened}
 
@@ -82,49 +88,90 @@ module _ (target : Repairing) (v : View) where
       opened_gives v target.vault target.pass (refused answer) (Next answer) vault opens
       (free_gives v target.lost answer (IsOfMoving (format_of vault) (under target.vault v) answer) free is)
 
-  -- a limit, or the folder, or memory
-  pub not_moved : (vault : Vault) (fault : CheckFault) → Opens v target.vault target.pass vault → ShowsFree v target.lost → IsRepairFault fault
-      → (fault ≡ check.Limit limited.Items → HasTooMany (format_of vault) (under target.vault v)) → (fault ≡ check.Limit limited.Depth → IsOnlyTooDeep (format_of vault) (under target.vault v))
-      → Unless (of_check fault) (OfRepairing target v (of_check fault))
-  not_moved vault (check.Limit limited.Items) opens free is items depth = inr (inr (moving vault _ opens free (TooMany refl (items refl))))
-  not_moved vault (check.Limit limited.Depth) opens free is items depth = inr (inr (moving vault _ opens free (TooDeep refl (depth refl))))
-  not_moved vault (check.Limit (limited.Length at)) opens free is items depth = absurd is
-  not_moved vault (check.Limit limited.Input) opens free is items depth = absurd is
-  not_moved vault check.Failed opens free is items depth = inl refl
-  not_moved vault check.NoMemory opens free is items depth = inr (inl refl)
+  pub moving_or_not : (vault : Vault) (answer : Answer) → Opens v target.vault target.pass vault → ShowsFree v target.lost → Unless answer (IsOfMoving (format_of vault) (under target.vault v) answer)
+      → Unless answer (OfRepairing target v answer)
+  moving_or_not vault answer opens free (inl failed) = inl failed
+  moving_or_not vault answer opens free (inr (inl memory)) = inr (inl memory)
+  moving_or_not vault answer opens free (inr (inr is)) = inr (inr (moving vault answer opens free is))
+
+-- a limit, or the folder, or memory
+pub not_moved : (f : Format) (w : View) (fault : CheckFault) → IsRepairFault fault → (fault ≡ check.Limit limited.Items → HasTooMany f w) → (fault ≡ check.Limit limited.Depth → IsOnlyTooDeep f w)
+    → Unless (of_check fault) (IsOfMoving f w (of_check fault))
+not_moved f w (check.Limit limited.Items) is items depth = inr (inr (TooMany refl (items refl)))
+not_moved f w (check.Limit limited.Depth) is items depth = inr (inr (TooDeep refl (depth refl)))
+not_moved f w (check.Limit (limited.Length at)) is items depth = absurd is
+not_moved f w (check.Limit limited.Input) is items depth = absurd is
+not_moved f w check.Failed is items depth = inl refl
+not_moved f w check.NoMemory is items depth = inr (inl refl)
+
+-- a call of the folder
+pub folder_stops : (fault : Fault) (P : Type 0) → Unless (of_check (of_folder fault)) P
+folder_stops folder.Failed P = inl refl
+folder_stops folder.Refused P = inl refl
+folder_stops folder.NoMemory P = inr (inl refl)
+
+pub folder_blamed : (fault : Fault) (n0 n1 n2 : ℕ) → n0 ≤ n1 → CountsAbove {T = Unit {0}} n1 n2 (Err fault) → of_check (of_folder fault) ≡ FolderFault → CountRose n0 n2
+folder_blamed folder.Failed n0 n1 n2 le counts is = rose_since n0 n1 n2 le counts.1
+folder_blamed folder.Refused n0 n1 n2 le counts is = rose_since n0 n1 n2 le counts.1
+folder_blamed folder.NoMemory n0 n1 n2 le counts is = cc is
+
+pub folder_is_no_test : (fault : Fault) → ¬ IsTrue (is_of_test (of_check (of_folder fault)))
+folder_is_no_test folder.Failed is = cc
+folder_is_no_test folder.Refused is = cc
+folder_is_no_test folder.NoMemory is = cc
+
+-- what is known of an answer, and more
+pub when_err : {T E : Type 0} (result : Result T E) (P Q : E → Type 0) → ((e : E) → P e → Q e) → IfErr result P → IfErr result Q
+when_err (Ok value) P Q more holds = tt
+when_err (Err e) P Q more holds = more e holds
+
+pub when_ok : {T E : Type 0} (result : Result T E) (P Q : T → Type 0) → ((x : T) → P x → Q x) → IfOk result P → IfOk result Q
+when_ok (Ok value) P Q more holds = more value holds
+when_ok (Err e) P Q more holds = tt
 
 -- what a repair of the opened vault says, of what was told before the vault was opened
 module _ (target : Repairing) (root : Path) (vault : Vault) (told entered told' : Option Told) (same : root ≡ target.vault) (still : entered ≡ told)
     (opens : IfSeen told (λ v. Opens v target.vault target.pass vault)) (apart : overlap target.vault target.lost ≡ false) where
-  pub has_moved : (moved : List Path) → FromTo (λ a b. AreMoved root (format_of vault) target.lost moved a b) entered told' → (moved ≡ [] → told' ≡ entered)
+  pub has_moved : (text : List ℕ) → TellsMoved vault root target.lost text entered told'
       → ((root lost : Path) (moved : List Path) (a b : Told) → IsSound a.state → AreApart root lost → HasOwnFolders vault (under root (seen a.state)) → AreMoved root (format_of vault) lost moved a b
       → OpensAs (format_of vault) (under root (seen a.state)) (under root (seen b.state)) × ((at : Path) → ¬ IsStray (format_of vault) (under root (seen b.state)) at))
-      → HasMovedStrays target moved told told'
-  has_moved moved are nothing law = record {
+      → TellsMovedStrays target text told told'
+  has_moved text tells law = (
+    tells.moved,
+    tells.text_is,
+    record {
+      vault = vault;
+      opens = opens;
+      are = subst (λ t. FromTo (λ a b. AreMoved target.vault (format_of vault) target.lost tells.moved a b) t told') still
+          (subst (λ p. FromTo (λ a b. AreMoved p (format_of vault) target.lost tells.moved a b) entered told') same tells.are);
+      all = subst (λ t. FromTo (HasMadeAll (repair_calls target.lost tells.moved)) t told') still tells.all;
+      nothing = λ none. tells.nothing none ∙ still;
+      leaves = λ a b sound own moves. law target.vault target.lost tells.moved a b sound (apart_by target.vault target.lost apart) own moves;
+    },
+  )
+
+  pub has_stopped : (told' ≡ entered) ⊎ FromTo (StopsMoving root (format_of vault) target.lost) entered told' → (told' ≡ told) ⊎ HasStopped target told told'
+  has_stopped (inl unchanged) = inl (unchanged ∙ still)
+  has_stopped (inr stops) = inr (record {
     vault = vault;
     opens = opens;
-    are = subst (λ t. FromTo (λ a b. AreMoved target.vault (format_of vault) target.lost moved a b) t told') still
-        (subst (λ p. FromTo (λ a b. AreMoved p (format_of vault) target.lost moved a b) entered told') same are);
-    nothing = λ none. nothing none ∙ still;
-    leaves = λ a b sound own moves. law target.vault target.lost moved a b sound (apart_by target.vault target.lost apart) own moves;
-  }
+    stops = subst (λ t. FromTo (StopsMoving target.vault (format_of vault) target.lost) t told') still
+        (subst (λ p. FromTo (StopsMoving p (format_of vault) target.lost) entered told') same stops);
+  })
 
   pub moves_strays : RepairsAt root (format_of vault) target.lost entered told'
+      → ((v : View) → IsSeen entered v → HasNoStrays (format_of vault) (under root v) → told' ≡ entered)
       → ((root lost : Path) (s0 s : State) (image : Image) → IsSound s0 → HasNothingPending s0 → AreApart root lost → HasOwnFolders vault (under root (seen s0))
       → IsRepairing root (format_of vault) lost s0 s → IsImage s image → OpensAs (format_of vault) (under root (seen s0)) (under root (view_of image)))
       → MovesStrays target told told'
-  moves_strays moments law = record {
+  moves_strays moments bare law = record {
     vault = vault;
     opens = opens;
     apart = apart_by target.vault target.lost apart;
     moments = subst (λ t. RepairsAt target.vault (format_of vault) target.lost t told') still (subst (λ p. RepairsAt p (format_of vault) target.lost entered told') same moments);
     keeps = λ s0 s image sound settled own repairing is. law target.vault target.lost s0 s image sound settled (apart_by target.vault target.lost apart) own repairing is;
+    bare = λ v seen none. bare v (subst (λ t. IsSeen t v) (sym still) seen) (subst (λ p. HasNoStrays (format_of vault) (under p v)) (sym same) none) ∙ still;
   }
-
-pub no_test : (fault : CheckFault) → ¬ IsTrue (is_of_test (of_check fault))
-no_test (check.Limit limit) is = cc
-no_test check.Failed is = cc
-no_test check.NoMemory is = cc
 
 pub of_moving : (fault : CheckFault) → IsTrue (is_of_moving (of_check fault))
 of_moving (check.Limit limit) = refl
@@ -156,13 +203,14 @@ moved_or_cut law target v answer (inr (inr of)) opens = by_moving (opened_is law
 
 pub repair_refused : (target : Repairing) (answer : Answer) (told told' : Option Told) (taken : Option (List ℕ)) → IsTrue (is_of_moving answer)
     → IfSeen told (λ v. Unless answer (OfRepairing target v answer)) → ((v : View) → IsSeen told v → OpensFree target v → (answer ≡ Done) ⊎ IsCutShort answer)
-    → (IsTrue (is_of_test answer) → told' ≡ told) → (told' ≡ told) ⊎ MovesStrays target told told' → RepairsApart target answer told told' taken taken
-repair_refused target answer told told' taken own cause complete tested moves = record {
+    → (IsTrue (is_of_test answer) → told' ≡ told) → (told' ≡ told) ⊎ MovesStrays target told told' → (told' ≡ told) ⊎ HasStopped target told told' → RepairsApart target answer told told' taken taken
+repair_refused target answer told told' taken own cause complete tested moves stops = record {
   own = or_left (is_of_moving answer) (is_of_end answer) own;
   cause = λ v is. cut_or answer (OfRepairing target v answer) (cause v is);
   complete = complete;
   tested = tested;
   moves = moves;
+  ends = inr stops;
   prints = nothing_printed moved_text (λ moved. HasMovedStrays target moved told told') is_of_moving answer taken own refl refl;
 }
 
@@ -179,17 +227,21 @@ not_of_test answer (inl done) test = let none : IsTrue (is_of_test Done) = subst
 not_of_test answer (inr (inl output)) test = let none : IsTrue (is_of_test OutputFault) = subst (λ a. IsTrue (is_of_test a)) output test in cc
 not_of_test answer (inr (inr memory)) test = let none : IsTrue (is_of_test OutOfMemory) = subst (λ a. IsTrue (is_of_test a)) memory test in cc
 
-pub repair_printed : (target : Repairing) (moved : List Path) (answer : Answer) (told told' : Option Told) (taken taken' : Option (List ℕ)) → HasMovedStrays target moved told told'
-    → IfSeen told (λ v. OfRepairing target v Done) → (told' ≡ told) ⊎ MovesStrays target told told' → PrintsText (moved_text moved) answer taken taken'
-    → IsPrinted answer → RepairsApart target answer told told' taken taken'
-repair_printed target moved answer told told' taken taken' has passed moves prints is_printed = record {
+pub repair_printed : (target : Repairing) (text : List ℕ) (answer : Answer) (told told' : Option Told) (taken taken' : Option (List ℕ)) → TellsMovedStrays target text told told'
+    → IfSeen told (λ v. OfRepairing target v Done) → (told' ≡ told) ⊎ MovesStrays target told told' → PrintsText text answer taken taken'
+    → (answer ≡ Done) ⊎ (answer ≡ OutputFault) → RepairsApart target answer told told' taken taken'
+repair_printed target text answer told told' taken taken' tells passed moves prints answers = record {
   own = printed_is_own is_of_moving answer refl is_printed;
   cause = λ v is. cause_printed target v answer (passed v is) is_printed;
   complete = λ v is opens. done_or_cut answer is_printed;
   tested = λ test. absurd (not_of_test answer is_printed test);
   moves = moves;
-  prints = printed moved_text (λ moved. HasMovedStrays target moved told told') moved answer taken taken' has prints is_printed;
+  ends = inl answers;
+  prints = printed moved_text (λ moved. HasMovedStrays target moved told told') tells.0 answer taken taken' tells.2 (subst (λ t. PrintsText t answer taken taken') tells.1 prints) is_printed;
 }
+  where
+    is_printed : IsPrinted answer
+    is_printed = elim answers as (λ _. IsPrinted answer) [ inl done ↦ inl done | inr output ↦ inr (inl output) ]
 
 -- of folders that don't overlap
 pub repaired_apart : (target : Repairing) (answer : Answer) (before after : World) → overlap target.vault target.lost ≡ false → Keeps before.left after.left → after.random ≡ before.random

@@ -4,3 +4,4 @@ pub mod Tests
 pub mod Sides
 pub mod Causes
 pub mod Unchanged
+pub mod Lasting

@@ -113,7 +113,7 @@ only_then work t u w =
 
 -- ---- what is seen of the work folder
 
-entry_apart : (work : Path) (name other : Part) → bytes_eq name other ≡ false → below (child work name) (child work other) ≡ None
+pub entry_apart : (work : Path) (name other : Part) → bytes_eq name other ≡ false → below (child work name) (child work other) ≡ None
 entry_apart work name other isnt = below-both work (name ∷ []) (other ∷ []) ∙ rw isnt refl
 
 root_apart : (work : Path) (name : Part) → below (child work name) work ≡ None

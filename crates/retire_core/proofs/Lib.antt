@@ -5,6 +5,7 @@ mod Going
 mod Cleared
 mod Lasts
 mod Away
+mod InTurn
 mod Courses
 mod Blaming
 mod Starts

@@ -1,15 +1,15 @@
 -- Words of private contracts: what stands in a work folder that is removed, and what its removal and that of the source change.
 use Rattle.std.specs.Prelude.{◌≡◌, ◌≢◌, ◌⊎◌, codes, None, Option, IsTrue}
 use Rattle.folder_spec.specs.Path.{Part, Path, below, child}
-use Rattle.folder_spec.specs.Event.{Call, MakeDir, Create, Append, Sync, Settle, Rename, RemoveFile, RemoveDir, Told}
-use Rattle.folder_spec.specs.Moments.{Moments}
+use Rattle.folder_spec.specs.Event.{Call, MakeDir, Create, Append, Sync, Settle, Rename, RemoveFile, RemoveDir, FromTo, Told}
+use Rattle.folder_spec.specs.Moments.{Moments, Went}
 use Rattle.folder_spec.specs.Region.{IsAsBefore, apart_from, apart_from_both, at_or_below}
 use Rattle.folder_spec.specs.Seen.{IfSeen, IsSeen, ShowsFile, seen}
-use Rattle.folder_spec.specs.State.{State}
+use Rattle.folder_spec.specs.State.{State, present}
 use Rattle.folder_spec.specs.View.{Folder, NoEntry, View}
 use Rattle.migration_spec.specs.Guard.{old_path}
 use Rattle.work_folder.specs.Entries.{journal_path}
-use Rattle.retire_core.specs.Retiring.{Retiring, IsHeld}
+use Rattle.retire_core.specs.Retiring.{Retiring, IsHeld, StandsBesideOld}
 
 -- the work folder has a journal, and beside it only what has its place there
 pub record IsInOrder (v : View) (work : Path) : Type 0 where
@@ -88,3 +88,16 @@ MovesHeld r s0 s call = MovesAway r.from r.work s0 s call × IsHeld r (seen s0)
 
 abbrev pub MovesHeldOnly : Retiring → Option Told → Option Told → Type 0
 MovesHeldOnly r = Moments (IsAsBefore (apart_from_both r.from r.work)) (λ s0 s e. MovesHeld r s0 s e.call)
+
+-- Since s0 the journal stands beside `old`, and it stands there now.
+pub record StandsStill (work : Path) (s0 s : State) : Type 0 where
+  pub beside : StandsBesideOld work s0 s
+  pub now : present s (journal_path work) ≡ present s0 (journal_path work)
+
+-- where it was so, since whichever state, it is so at each moment
+abbrev pub KeepsJournal : Path → Option Told → Option Told → Type 0
+KeepsJournal work = FromTo (λ a b. (s0 : State) → StandsStill work s0 a.state → Went (StandsStill work s0) (λ s e. Unit {0}) a b)
+
+-- and in the end the journal may go too
+abbrev pub KeepsBeside : Path → Option Told → Option Told → Type 0
+KeepsBeside work = FromTo (λ a b. (s0 : State) → StandsStill work s0 a.state → Went (StandsBesideOld work s0) (λ s e. Unit {0}) a b)

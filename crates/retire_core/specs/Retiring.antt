@@ -5,7 +5,8 @@ use Rattle.folder_spec.specs.Event.{Call, MakeDir, Create, Append, Sync, Settle,
 use Rattle.folder_spec.specs.Moments.{Moments}
 use Rattle.folder_spec.specs.Region.{IsAsBefore, apart_from_both, at_or_below}
 use Rattle.folder_spec.specs.Seen.{IfSeen, seen, under}
-use Rattle.folder_spec.specs.State.{State}
+use Rattle.folder_spec.specs.State.{State, Table, IsTableOf, present}
+use Rattle.folder_spec.specs.declared.Spot.TheVariants.{Nothing}
 use Rattle.folder_spec.specs.View.{NoEntry, View}
 use Rattle.migration_sides.specs.Sides.{opened_in}
 use Rattle.move_journal.specs.Journal.{IsJournal}
@@ -14,6 +15,7 @@ use Rattle.move_journal.specs.declared.journal.Phase.{Phase}
 use Rattle.move_journal.specs.declared.journal.Phase.TheVariants.{Done}
 use Rattle.move_journal.specs.Reading.{StandsIn}
 use Rattle.migration_spec.specs.Guard.{old_path}
+use Rattle.work_folder.specs.Entries.{journal_path}
 use Rattle.vault_spec.specs.Mapped.{IsHeldIn}
 use Rattle.plain_tree.specs.declared.name_map.NameMap.{NameMap}
 use Rattle.vault_read.specs.OwnFolders.{HasOwnFolders}
@@ -80,6 +82,15 @@ Removes r s0 s (Rename old new) = Unit {0}
 -- each call removes from `old` only where it may
 abbrev pub RemovesOnly : Retiring → Option Told → Option Told → Type 0
 RemovesOnly r = Moments (λ s0 s. Unit {0}) (λ s0 s e. Removes r s0 s e.call)
+
+-- Since s0: in each name table in which something stands at `old`, what stood at `journal` stands there; and all files are as they were.
+pub record StandsBesideOld (work : Path) (s0 s : State) : Type 0 where
+  pub journal : (t : Table) → IsTableOf s t → t (old_path work) ≢ Nothing → t (journal_path work) ≡ present s0 (journal_path work)
+  pub nodes : s.nodes ≡ s0.nodes
+
+-- So it is at every moment of a call, or the state is still that of its begin.
+abbrev pub KeepsInOrder : Path → Option Told → Option Told → Type 0
+KeepsInOrder work = Moments (λ s0 s. (s ≡ s0) ⊎ StandsBesideOld work s0 s) (λ s0 s e. Unit {0})
 
 -- the migration that this journal tells, by these passphrases
 abbrev pub retiring_by : Path → List ℕ → List ℕ → Journal → Retiring

@@ -3,9 +3,10 @@ ghost use Rattle.std.specs.Prelude.{◌≡◌, ◌≢◌, ◌≤◌, [], IfErr, 
 ghost use Rattle.port_model.specs.Counts.{CountRose};
 ghost use Rattle.folder_spec.specs.Path.{child};
 ghost use Rattle.folder_spec.specs.Seen.{IfSeen};
+ghost use Rattle.migration_sides.specs.Lasting.{Lasts};
 ghost use Rattle.migration_spec.specs.Guard.{Migration};
 ghost use Rattle.retire_core.specs.Causes.{IsOfFolder, TestsRemoval, TestsRemovals, Unless};
-ghost use Rattle.retire_core.specs.Clearing.{ClearsEntry, ClearsOnly, ClearsRest, HasOnlyJournal, IsGone, IsInOrder, Leaves};
+ghost use Rattle.retire_core.specs.Clearing.{ClearsEntry, ClearsOnly, ClearsRest, HasOnlyJournal, IsGone, IsInOrder, KeepsBeside, KeepsJournal, Leaves};
 ghost use Rattle.retire_core.specs.Faults.{Blamed, IsLaterFault, IsOfRemoval};
 ghost use Rattle.retire_core.specs.Guarding.{KeepsRetiring};
 
@@ -21,7 +22,9 @@ pub(crate) fn clear<F: Folder>(folder: &mut F, work: &FPath) -> Result<(), Retir
     requires order { IfSeen (F.told folder.old) (λ v. IsInOrder v work.now) }
     ensures guard { (g : Migration) → g.work ≡ work.now → KeepsRetiring g (F.told folder.old) (F.told folder.new) }
     ensures clears { ClearsOnly work.now (F.told folder.old) (F.told folder.new) }
+    ensures beside { KeepsBeside work.now (F.told folder.old) (F.told folder.new) }
     ensures gone { OnOk result (IsGone work.now (F.told folder.new)) }
+    ensures lasts { OnOk result (Lasts (F.told folder.new)) }
     ensures grows { F.faults folder.old ≤ F.faults folder.new }
     ensures blamed { IfErr result (Blamed IsLaterFault (CountRose (F.faults folder.old) (F.faults folder.new))) }
     ensures refused { IfErr result IsOfRemoval }
@@ -36,6 +39,7 @@ fn clear_beside<F: Folder>(folder: &mut F, work: &FPath) -> Result<(), RetireFau
     requires order { IfSeen (F.told folder.old) (λ v. IsInOrder v work.now) }
     ensures guard { (g : Migration) → g.work ≡ work.now → KeepsRetiring g (F.told folder.old) (F.told folder.new) }
     ensures clears { ClearsOnly work.now (F.told folder.old) (F.told folder.new) }
+    ensures journal { KeepsJournal work.now (F.told folder.old) (F.told folder.new) }
     ensures cleared { OnOk result (IfSeen (F.told folder.new) (λ v. HasOnlyJournal v work.now)) }
     ensures grows { F.faults folder.old ≤ F.faults folder.new }
     ensures blamed { IfErr result (Blamed IsLaterFault (CountRose (F.faults folder.old) (F.faults folder.new))) }
@@ -75,6 +79,7 @@ fn clear_rest<F: Folder>(folder: &mut F, work: &FPath) -> Result<(), RetireFault
     ensures guard { (g : Migration) → g.work ≡ work.now → KeepsRetiring g (F.told folder.old) (F.told folder.new) }
     ensures clears { ClearsRest work.now (F.told folder.old) (F.told folder.new) }
     ensures gone { OnOk result (IsGone work.now (F.told folder.new)) }
+    ensures lasts { OnOk result (Lasts (F.told folder.new)) }
     ensures grows { F.faults folder.old ≤ F.faults folder.new }
     ensures blamed { IfErr result (Blamed IsLaterFault (CountRose (F.faults folder.old) (F.faults folder.new))) }
     ensures fails { IfErr result IsOfFolder }

@@ -4,17 +4,18 @@ ghost use Rattle.port_model.specs.Counts.{CountRose};
 ghost use Rattle.folder_spec.specs.Seen.{IfSeen, IsSeen, moved_view};
 ghost use Rattle.folder_spec.specs.View.{Folder, NoEntry, View};
 ghost use Rattle.folder_spec.specs.Apart.{AreSeparate, AreApart};
+ghost use Rattle.migration_sides.specs.Lasting.{Lasts};
 ghost use Rattle.migration_sides.specs.Unchanged.{ChangesNothing};
 ghost use Rattle.migration_spec.specs.Alone.{KeepsGuarded};
 ghost use Rattle.migration_spec.specs.Guard.{AreOpenedBy, Migration, old_path};
 ghost use Rattle.move_journal.specs.Journal.{IsJournal};
 ghost use Rattle.move_journal.specs.Reading.{StandsIn};
 ghost use Rattle.retire_core.specs.Causes.{IsOfFolder, PassesTests, ReadsDone, Retires, RetiresTold, TestsAway, TestsFree, TestsHeld, Unless, moved_away};
-ghost use Rattle.retire_core.specs.Clearing.{IsGone, IsInOrder, MovesHeldOnly, MovesOnly};
+ghost use Rattle.retire_core.specs.Clearing.{IsGone, IsInOrder, KeepsBeside, MovesHeldOnly, MovesOnly};
 ghost use Rattle.retire_core.specs.Completing.{CanRetire};
 ghost use Rattle.retire_core.specs.Faults.{Blamed, IsLaterFault, IsOfRemoval, IsRetireFault};
 ghost use Rattle.retire_core.specs.Guarding.{ComesFromDone, ComesToRetiring, KeepsDone, KeepsFromRest};
-ghost use Rattle.retire_core.specs.Retiring.{HasRetired, RemovesOnly, TouchesOnly, retiring_by};
+ghost use Rattle.retire_core.specs.Retiring.{HasRetired, KeepsInOrder, RemovesOnly, TouchesOnly, retiring_by};
 
 use crate::clearing::clear;
 use crate::fault::RetireFault;
@@ -57,6 +58,8 @@ pub fn retire<F: Folder>(
     ensures removes { (v : View) (journal : Journal) → IsSeen (F.told folder.old) v → IsJournal journal → StandsIn work.now journal v
         → RemovesOnly (retiring_by work.now source_pass.now target_pass.now journal) (F.told folder.old) (F.told folder.new) }
     ensures retired { IfOk result (λ retired. IfSeen (F.told folder.old) (λ v. HasRetired work.now retired.items (F.told folder.new) v)) }
+    ensures order { KeepsInOrder work.now (F.told folder.old) (F.told folder.new) }
+    ensures lasts { OnOk result (Lasts (F.told folder.new)) }
     ensures completes { (g : Migration) → IfSeen (F.told folder.old) (λ v. g.work ≡ work.now → AreOpenedBy g source_pass.now target_pass.now v → CanRetire g v → IfErr result IsOfFolder) }
     ensures grows { F.faults folder.old ≤ F.faults folder.new }
     ensures blamed { IfErr result (Blamed IsRetireFault (CountRose (F.faults folder.old) (F.faults folder.new))) }
@@ -83,6 +86,8 @@ fn retire_settled<F: Folder>(
     ensures removes { (v : View) (journal : Journal) → IsSeen (F.told folder.old) v → IsJournal journal → StandsIn work.now journal v
         → RemovesOnly (retiring_by work.now source_pass.now target_pass.now journal) (F.told folder.old) (F.told folder.new) }
     ensures retired { IfOk result (λ retired. IfSeen (F.told folder.old) (λ v. HasRetired work.now retired.items (F.told folder.new) v)) }
+    ensures beside { KeepsBeside work.now (F.told folder.old) (F.told folder.new) }
+    ensures lasts { OnOk result (Lasts (F.told folder.new)) }
     ensures grows { F.faults folder.old ≤ F.faults folder.new }
     ensures blamed { IfErr result (Blamed IsRetireFault (CountRose (F.faults folder.old) (F.faults folder.new))) }
     ensures tested { (F.told folder.new ≡ F.told folder.old) ⊎ IfSeen (F.told folder.old) (λ v. IfErr result IsOfRemoval × PassesTests work.now source_pass.now target_pass.now v) }
@@ -131,6 +136,8 @@ fn retire_told<F: Folder>(
     ensures removes { RemovesOnly (retiring_by work.now source_pass.now target_pass.now journal.now) (F.told folder.old) (F.told folder.new) }
     ensures source { OnOk result (IsGone journal.now.source (F.told folder.new)) }
     ensures work { OnOk result (IsGone work.now (F.told folder.new)) }
+    ensures beside { KeepsBeside work.now (F.told folder.old) (F.told folder.new) }
+    ensures lasts { OnOk result (Lasts (F.told folder.new)) }
     ensures items { IfOk result (λ retired. retired.items ≡ journal.now.items) }
     ensures grows { F.faults folder.old ≤ F.faults folder.new }
     ensures blamed { IfErr result (Blamed IsLaterFault (CountRose (F.faults folder.old) (F.faults folder.new))) }

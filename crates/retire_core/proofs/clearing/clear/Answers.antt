@@ -8,6 +8,7 @@ use Rattle.std.proofs.Common.{Ok}
 use Rattle.retire_core.specs.Faults.{IsOfRemoval}
 use Rattle.retire_core.proofs.Blaming.{folder_removal, if_err_both}
 use Rattle.retire_core.proofs.clearing.clear.Goals as goal
+use Rattle.retire_core.proofs.InTurn.{beside_then, keeps_beside, last_keeps}
 
 pub returns-clause-guard : goal.returns-clause-guard
 returns-clause-guard g c = λ migration same.
@@ -31,3 +32,13 @@ returns-in_err-clear_beside-clause-refused g c = fault_as _ c.from_residual.resu
 
 pub returns-clause-refused : goal.returns-clause-refused
 returns-clause-refused g c = if_err_both IsOfFolder IsOfRemoval c.clear_rest.result folder_removal c.clear_rest.ensures.fails
+
+pub returns-in_err-clear_beside-clause-beside : goal.returns-in_err-clear_beside-clause-beside
+returns-in_err-clear_beside-clause-beside g c = keeps_beside c.args.work.now (g.F.Folder.told c.args.folder.now) (g.F.Folder.told c.clear_beside.new.folder) c.clear_beside.ensures.journal
+
+pub returns-clause-beside : goal.returns-clause-beside
+returns-clause-beside g c =
+    let work = c.args.work.now in
+    let here = g.F.Folder.told c.clear_beside.new.folder in
+    let after = g.F.Folder.told c.clear_rest.new.folder in
+    beside_then work (g.F.Folder.told c.args.folder.now) here after c.clear_beside.ensures.journal (last_keeps work here after c.in_ok-clear_beside.ensures.cleared c.clear_rest.ensures.clears)

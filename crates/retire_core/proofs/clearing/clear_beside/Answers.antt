@@ -5,6 +5,7 @@ use Rattle.migration_sides.proofs.Chains.{refused_as}
 use Rattle.retire_core.proofs.Causing.{both_removed, old_stays, removed_before, stage_stays}
 use Rattle.retire_core.specs.Causes.{TestsRemovals, Unless}
 use Rattle.retire_core.proofs.clearing.clear_beside.Goals as goal
+use Rattle.retire_core.proofs.InTurn.{entry_keeps, keeps_then}
 
 pub returns-in_err-clear_entry-clause-clears : goal.returns-in_err-clear_entry-clause-clears
 returns-in_err-clear_entry-clause-clears g c = only_by_old c.args.work.now (g.F.Folder.told c.args.folder.now) (g.F.Folder.told c.clear_entry.new.folder) c.clear_entry.ensures.clears
@@ -72,3 +73,25 @@ returns-clause-cause g c v seen =
     both_removed work v answer (c.in_ok-clear_entry.ensures.cause v seen) (removed_before work (codes "old") (codes "stage") t0 t1 (Ok tt) refl old.clears old.leaves c.in_ok-clear_entry-2.ensures.cause v seen)
     (removed_before work (codes "old") (codes "journal.new") t0 t1 answer refl old.clears old.leaves
     (removed_before work (codes "stage") (codes "journal.new") t1 t2 answer refl stage.clears stage.leaves c.clear_entry-3.ensures.cause) v seen)
+
+pub returns-in_err-clear_entry-clause-journal : goal.returns-in_err-clear_entry-clause-journal
+returns-in_err-clear_entry-clause-journal g c = entry_keeps c.args.work.now (codes "old") (λ e. cc e) (g.F.Folder.told c.args.folder.now) (g.F.Folder.told c.clear_entry.new.folder) c.clear_entry.ensures.clears
+
+pub returns-in_err-clear_entry-2-clause-journal : goal.returns-in_err-clear_entry-2-clause-journal
+returns-in_err-clear_entry-2-clause-journal g c =
+    let work = c.args.work.now in
+    let t0 = g.F.Folder.told c.args.folder.now in
+    let t1 = g.F.Folder.told c.clear_entry.new.folder in
+    let t2 = g.F.Folder.told c.clear_entry-2.new.folder in
+    keeps_then work t0 t1 t2 (entry_keeps work (codes "old") (λ e. cc e) t0 t1 c.clear_entry.ensures.clears) (entry_keeps work (codes "stage") (λ e. cc e) t1 t2 c.clear_entry-2.ensures.clears)
+
+pub returns-clause-journal : goal.returns-clause-journal
+returns-clause-journal g c =
+    let work = c.args.work.now in
+    let t0 = g.F.Folder.told c.args.folder.now in
+    let t1 = g.F.Folder.told c.clear_entry.new.folder in
+    let t2 = g.F.Folder.told c.clear_entry-2.new.folder in
+    let t3 = g.F.Folder.told c.clear_entry-3.new.folder in
+    keeps_then work t0 t2 t3
+    (keeps_then work t0 t1 t2 (entry_keeps work (codes "old") (λ e. cc e) t0 t1 c.clear_entry.ensures.clears) (entry_keeps work (codes "stage") (λ e. cc e) t1 t2 c.clear_entry-2.ensures.clears))
+    (entry_keeps work (codes "journal.new") (λ e. cc e) t2 t3 c.clear_entry-3.ensures.clears)

@@ -9,6 +9,7 @@ use Rattle.retire_core.proofs.Lasts.{folder_clears, folder_retiring, journal_cle
 use Rattle.retire_core.proofs.Causing.{folder_fails}
 use Rattle.retire_core.proofs.clearing.clear_rest.Goals as goal
 use Rattle.migration_sides.proofs.Chains.{fault_as}
+use Rattle.migration_sides.proofs.Lasting.{settle_lasts}
 
 pub returns-in_err-remove_file-clause-guard : goal.returns-in_err-remove_file-clause-guard
 returns-in_err-remove_file-clause-guard g c = λ migration same.
@@ -126,3 +127,6 @@ returns-in_err-remove_dir-clause-fails g c =
 pub returns-in_err-settle-clause-fails : goal.returns-in_err-settle-clause-fails
 returns-in_err-settle-clause-fails g c =
     fault_as _ c.from_residual-in_err-settle.result c.from_residual-in_err-settle.ensures.1 (folder_fails c.in_err-settle.field-0.0)
+
+pub returns-clause-lasts : goal.returns-clause-lasts
+returns-clause-lasts g c = settle_lasts (g.F.Folder.told c.remove_dir.new.self) (g.F.Folder.told c.settle.new.self) c.in_ok-settle.field-0 c.in_ok-settle.ensures.changes

@@ -11,6 +11,7 @@ use Rattle.migration_spec.proofs.Tellings.{folders_of}
 use Rattle.migration_spec.proofs.Settling.{settle_fell, settle_seen}
 use Rattle.migration_sides.proofs.Unchanged.{tested_settled, unchanged_settled}
 use Rattle.retire_core.specs.declared.fault.RetireFault.TheVariants.{Failed, NoMemory}
+use Rattle.retire_core.proofs.InTurn.{order_then, settle_order}
 
 pub returns-in_err-settle-clause-guard : goal.returns-in_err-settle-clause-guard
 returns-in_err-settle-clause-guard g c = λ migration at_work.
@@ -82,3 +83,10 @@ returns-clause-tested g c =
     let t2 = g.F.Folder.told c.retire_settled.new.folder in
     tested_settled t0 t1 t2 (λ v. IfErr c.retire_settled.result IsOfRemoval × PassesTests c.args.work.now c.args.source_pass.now c.args.target_pass.now v) c.retire_settled.ensures.tested
     (unchanged_settled t0 t1 c.settle.result c.settle.ensures.changes) (settle_seen t0 t1 c.in_ok-settle.field-0 c.in_ok-settle.ensures.changes)
+
+pub returns-in_err-settle-clause-order : goal.returns-in_err-settle-clause-order
+returns-in_err-settle-clause-order g c = settle_order c.args.work.now (g.F.Folder.told c.args.folder.now) (g.F.Folder.told c.settle.new.self) c.settle.result c.settle.ensures.changes
+
+pub returns-clause-order : goal.returns-clause-order
+returns-clause-order g c =
+    order_then c.args.work.now (g.F.Folder.told c.args.folder.now) (g.F.Folder.told c.settle.new.self) (g.F.Folder.told c.retire_settled.new.folder) c.in_ok-settle.field-0 c.in_ok-settle.ensures.changes c.retire_settled.ensures.beside

@@ -19,6 +19,8 @@ use Rattle.retire_core.specs.Causes.{PassesTests, ReadsDone, Retires, TestsAway,
 use Rattle.retire_core.specs.declared.fault.RetireFault.TheVariants.{Failed, NoMemory}
 use Rattle.retire_core.proofs.retiring.retire_settled.Goals as goal
 use Rattle.migration_spec.proofs.Tellings.{folders_of}
+use Rattle.retire_core.proofs.InTurn.{beside_same}
+use Rattle.retire_core.specs.Clearing.{KeepsBeside}
 
 pub returns-in_err-journal-clause-guard : goal.returns-in_err-journal-clause-guard
 returns-in_err-journal-clause-guard g c = λ migration at_work. rest_same migration (g.F.Folder.told c.args.folder.now) (g.F.Folder.told c.read_done.new.folder) c.read_done.ensures.told
@@ -175,3 +177,15 @@ returns-clause-tested g c =
         away = away.1;
       },
     ))
+
+pub returns-in_err-journal-clause-beside : goal.returns-in_err-journal-clause-beside
+returns-in_err-journal-clause-beside g c = beside_same c.args.work.now (g.F.Folder.told c.args.folder.now) (g.F.Folder.told c.read_done.new.folder) c.read_done.ensures.told
+
+pub returns-in_err-test_apart-clause-beside : goal.returns-in_err-test_apart-clause-beside
+returns-in_err-test_apart-clause-beside g c = beside_same c.args.work.now (g.F.Folder.told c.args.folder.now) (g.F.Folder.told c.read_done.new.folder) c.read_done.ensures.told
+
+pub returns-in_err-look_again-clause-beside : goal.returns-in_err-look_again-clause-beside
+returns-in_err-look_again-clause-beside g c = beside_same c.args.work.now (g.F.Folder.told c.args.folder.now) (g.F.Folder.told c.look_again.new.folder) (c.look_again.ensures.told ∙ c.read_done.ensures.told)
+
+pub returns-clause-beside : goal.returns-clause-beside
+returns-clause-beside g c = subst (λ t. KeepsBeside c.args.work.now t (g.F.Folder.told c.retire_told.new.folder)) (c.look_again.ensures.told ∙ c.read_done.ensures.told) c.retire_told.ensures.beside

@@ -11,6 +11,7 @@ use Rattle.retire_core.proofs.retiring.retire_told.Given.{Over}
 use Rattle.retire_core.proofs.retiring.retire_told.Goals as goal
 use Rattle.retire_core.proofs.retiring.retire_told.Goals.{In_ok-put_away}
 use Rattle.retire_core.proofs.Away.{not_base}
+use Rattle.retire_core.proofs.InTurn.{beside_then, keeps_beside, moved_keeps}
 
 -- the source is gone, or may be moved away
 module _ (g : Over) (c : In_ok-put_away g) where
@@ -108,3 +109,24 @@ returns-in_err-clear-clause-tested g c = inr (λ v seen. (
 
 pub returns-clause-tested : goal.returns-clause-tested
 returns-clause-tested g c = inr (λ v seen. (tt, put_away_passed g (goal.at.returns-clause-tested g c).In_ok-put_away v seen))
+
+pub returns-in_err-put_away-clause-beside : goal.returns-in_err-put_away-clause-beside
+returns-in_err-put_away-clause-beside g c =
+    let r = retiring_by c.args.work.now c.args.source_pass.now c.args.target_pass.now c.args.journal.now in
+    let t0 = g.F.Folder.told c.args.folder.now in
+    let t1 = g.F.Folder.told c.put_away.new.folder in
+    keeps_beside c.args.work.now t0 t1 (moved_keeps r t0 t1 c.requires.apart.source c.put_away.ensures.moves)
+
+pub returns-in_err-clear-clause-beside : goal.returns-in_err-clear-clause-beside
+returns-in_err-clear-clause-beside g c =
+    let r = retiring_by c.args.work.now c.args.source_pass.now c.args.target_pass.now c.args.journal.now in
+    let t0 = g.F.Folder.told c.args.folder.now in
+    let t1 = g.F.Folder.told c.put_away.new.folder in
+    beside_then c.args.work.now t0 t1 (g.F.Folder.told c.clear.new.folder) (moved_keeps r t0 t1 c.requires.apart.source c.put_away.ensures.moves) c.clear.ensures.beside
+
+pub returns-clause-beside : goal.returns-clause-beside
+returns-clause-beside g c =
+    let r = retiring_by c.args.work.now c.args.source_pass.now c.args.target_pass.now c.args.journal.now in
+    let t0 = g.F.Folder.told c.args.folder.now in
+    let t1 = g.F.Folder.told c.put_away.new.folder in
+    beside_then c.args.work.now t0 t1 (g.F.Folder.told c.clear.new.folder) (moved_keeps r t0 t1 c.requires.apart.source c.put_away.ensures.moves) c.clear.ensures.beside

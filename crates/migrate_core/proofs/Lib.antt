@@ -32,3 +32,4 @@ mod WorkFolders
 mod Writings
 mod WrittenItems
 mod WrittenTrees
+pub mod Lastings

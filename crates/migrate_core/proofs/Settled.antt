@@ -175,7 +175,7 @@ settled_by work region root g p (Some a) None went known = absurd went
 -- ---- a settle
 
 -- after one that was done it is settled
-settled_at : SettlesGuarded → SettlesAlone → (g : Migration) (a b : Told) → IsSound a.state → IsSound b.state → Guarded g a.state → b ≡ told_after a Settle Done → IsSettled g b.state
+pub settled_at : SettlesGuarded → SettlesAlone → (g : Migration) (a b : Told) → IsSound a.state → IsSound b.state → Guarded g a.state → b ≡ told_after a Settle Done → IsSettled g b.state
 settled_at settles alone g a b sound sound_after guarded is = record {
   sound = sound_after;
   guarded = subst (λ (c : Told). Guarded g c.state) (sym is) (settles g a.state guarded);

@@ -435,6 +435,11 @@ settle_writes t u result changes =
     (λ a b is steps. went_by_call (HoldsOnly (λ file. ⊥) a.state) (Calls (BringsOnlyTo [] (λ at. ⊥))) Settle a b result (holds_same (λ file. ⊥) a.state)
     (λ allowed. none_made a.state (changed a.state Settle) refl refl) (λ added allowed. holds_same (λ file. ⊥) a.state) (λ outcome. tt) steps) changes
 
+-- beside any root
+pub settle_beside : (root : Path) (P : List ℕ → Type 0) (t u : Option Told) (result : Result (Unit {0}) FolderFault) → Changes Settle t u result → WritesBeside root P t u
+settle_beside root P t u result changes =
+    only_more (BringsOnlyTo [] (λ at. ⊥)) (BringsOnlyTo root (λ at. ⊥)) (λ file. ⊥) P (brings_none root (λ at. ⊥)) (λ file none. absurd none) t u (settle_writes t u result changes)
+
 -- ---- before and after
 
 module _ (from to : OpenedVault) (items : List Planned) (texts : List (List ℕ)) (s s' : Option ByteStream) (t u w : Option Told) (known : IfSeen t (λ v. IsSeen u v)) (before : WritesBeside [] (λ file. ⊥) t u) where

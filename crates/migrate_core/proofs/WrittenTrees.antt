@@ -25,7 +25,7 @@ use Rattle.vault_walk.specs.Survey.{IsOrdered}
 use Rattle.move_journal.specs.declared.journal.Phase.TheVariants.{Done}
 use Rattle.move_journal.specs.Reading.{StandsIn}
 use Rattle.migrate_core.specs.Sides.{AreTold, new_journal}
-use Rattle.migrate_core.specs.Written.{IsRefusal, BringsOnlyTo, WritesBeside, MayWrite, MayWriteTold, MayWriteTree, WritesAll, WritesBy, WritesLacked, WritesNothing, WritesTree, journal_texts, lacked}
+use Rattle.migrate_core.specs.Written.{IsRefusal, BringsOnlyTo, WritesBeside, MayWriteBy, MayWriteTold, MayWriteTreeBy, WritesAll, WritesBy, WritesLacked, WritesNothing, WritesTree, done_texts, lacked}
 use Rattle.migrate_core.proofs.Writings.{brings_none, by_after, first_of_all, in_second, only_on, stop_is_test}
 
 -- ---- by the answer
@@ -44,17 +44,17 @@ pub nothing_written : {T : Type 0} (result : Result T MoveFault) (why : MoveFaul
 nothing_written result why is tested s t u undrawn stays = refused_written result why is tested s t u undrawn (unchanged t u stays)
 
 -- the vaults are those of two roots and their passphrases
-pub tree_of : {T : Type 0} (result : Result T MoveFault) (names : NameMap) (from to work : Path) (pass pass' : List ℕ) (source target : OpenedVault) (s s' : Option ByteStream) (t t' : Option Told) → source.root ≡ from → target.root ≡ to
+pub tree_of : {T : Type 0} (texts : List Planned → List (List ℕ)) (result : Result T MoveFault) (names : NameMap) (from to work : Path) (pass pass' : List ℕ) (source target : OpenedVault) (s s' : Option ByteStream) (t t' : Option Told) → source.root ≡ from → target.root ≡ to
     → IfSeen t (λ v. IsVault (under from v) pass source.vault) → IfSeen t (λ v. IsVault (under to v) pass' target.vault)
-    → MayWrite result names source target work s s' t t' → MayWriteTree result names from to work pass pass' s s' t t'
-tree_of result names from to work pass pass' source target s s' t t' at_from at_to opens opens' may = elim may [
+    → MayWriteBy texts result names source target work s s' t t' → MayWriteTreeBy texts result names from to work pass pass' s s' t t'
+tree_of texts result names from to work pass pass' source target s s' t t' at_from at_to opens opens' may = elim may [
   | inl nothing ↦ inl nothing
   | inr writes ↦ inr (record {
     source = source.vault;
     target = target.vault;
     opens_source = opens;
     opens_target = opens';
-    writes = subst₂ (λ p q. WritesLacked result names (opened_in p source.vault) (opened_in q target.vault) work s s' t t') at_from at_to writes;
+    writes = subst₂ (λ p q. WritesLacked texts result names (opened_in p source.vault) (opened_in q target.vault) work s s' t t') at_from at_to writes;
   })
 ]
 
@@ -67,8 +67,8 @@ module _ (s s' : Option ByteStream) (t u w : Option Told) (known : IfSeen t (λ 
   unready_after root work (inl beside) = inl (only_on (BringsOnlyTo [] (λ at. ⊥)) (BringsOnlyTo root (λ at. ⊥)) (BringsOnlyTo root (λ at. ⊥)) (λ file. ⊥) (λ file. ⊥) (λ file. ⊥) (brings_none root (λ at. ⊥)) (λ call is. is) (λ file none. none) (λ file none. none) t u w before beside)
   unready_after root work (inr empties) = inr (λ v is. empties v (known v is))
 
-  lacked_after : {T : Type 0} (result : Result T MoveFault) (names : NameMap) (from to : OpenedVault) (work : Path) → WritesLacked result names from to work s s' u w → WritesLacked result names from to work s s' t w
-  lacked_after result names from to work h = record {
+  lacked_after : {T : Type 0} (texts : List Planned → List (List ℕ)) (result : Result T MoveFault) (names : NameMap) (from to : OpenedVault) (work : Path) → WritesLacked texts result names from to work s s' u w → WritesLacked texts result names from to work s s' t w
+  lacked_after texts result names from to work h = record {
     items = h.items;
     mapped = h.mapped;
     there = h.there;
@@ -76,32 +76,32 @@ module _ (s s' : Option ByteStream) (t u w : Option Told) (known : IfSeen t (λ 
     mapped_are = h.mapped_are;
     there_are = λ v is. h.there_are v (known v is);
     unready = unready_after to.root work h.unready;
-    writes = by_after from to (lacked h.there h.mapped) (journal_texts names from.root to.root h.items) s s' t u w known before result h.writes;
+    writes = by_after from to (lacked h.there h.mapped) (texts h.items) s s' t u w known before result h.writes;
   }
 
-  tree_after : {T : Type 0} (result : Result T MoveFault) (names : NameMap) (from to work : Path) (pass pass' : List ℕ) → WritesTree result names from to work pass pass' s s' u w → WritesTree result names from to work pass pass' s s' t w
-  tree_after result names from to work pass pass' h = record {
+  tree_after : {T : Type 0} (texts : List Planned → List (List ℕ)) (result : Result T MoveFault) (names : NameMap) (from to work : Path) (pass pass' : List ℕ) → WritesTree texts result names from to work pass pass' s s' u w → WritesTree texts result names from to work pass pass' s s' t w
+  tree_after texts result names from to work pass pass' h = record {
     source = h.source;
     target = h.target;
     opens_source = λ v is. h.opens_source v (known v is);
     opens_target = λ v is. h.opens_target v (known v is);
-    writes = lacked_after result names (opened_in from h.source) (opened_in to h.target) work h.writes;
+    writes = lacked_after texts result names (opened_in from h.source) (opened_in to h.target) work h.writes;
   }
 
-  pub may_write_after : {T : Type 0} (result : Result T MoveFault) (names : NameMap) (from to work : Path) (pass pass' : List ℕ) → MayWriteTree result names from to work pass pass' s s' u w → MayWriteTree result names from to work pass pass' s s' t w
-  may_write_after result names from to work pass pass' may = elim may [
+  pub may_write_after : {T : Type 0} (texts : List Planned → List (List ℕ)) (result : Result T MoveFault) (names : NameMap) (from to work : Path) (pass pass' : List ℕ) → MayWriteTreeBy texts result names from to work pass pass' s s' u w → MayWriteTreeBy texts result names from to work pass pass' s s' t w
+  may_write_after texts result names from to work pass pass' may = elim may [
     | inl nothing ↦ inl (nothing_after result nothing)
-    | inr writes ↦ inr (tree_after result names from to work pass pass' writes)
+    | inr writes ↦ inr (tree_after texts result names from to work pass pass' writes)
   ]
 
   pub told_after : {T : Type 0} (result : Result T MoveFault) (work : Path) (pass pass' : List ℕ) (v : View) → MayWriteTold result work pass pass' s s' u w v → MayWriteTold result work pass pass' s s' t w v
   told_after result work pass pass' v may = elim may [
     | inl nothing ↦ inl (nothing_after result nothing)
-    | inr told ↦ inr (record { journal = told.journal; is = told.is; stands = told.stands; writes = tree_after result told.journal.names told.journal.source told.journal.target work pass pass' told.writes })
+    | inr told ↦ inr (record { journal = told.journal; is = told.is; stands = told.stands; writes = tree_after (λ items. done_texts told.journal) result told.journal.names told.journal.source told.journal.target work pass pass' told.writes })
   ]
 
 pub told_of : {T : Type 0} (result : Result T MoveFault) (work : Path) (pass pass' : List ℕ) (s s' : Option ByteStream) (t t' : Option Told) (v : View) (j : Journal) → IsJournal j → StandsIn work j v
-    → MayWriteTree result j.names j.source j.target work pass pass' s s' t t' → MayWriteTold result work pass pass' s s' t t' v
+    → MayWriteTreeBy (λ items. done_texts j) result j.names j.source j.target work pass pass' s s' t t' → MayWriteTold result work pass pass' s s' t t' v
 told_of result work pass pass' s s' t t' v j is stands may = elim may [
   | inl nothing ↦ inl nothing
   | inr writes ↦ inr (record { journal = j; is = is; stands = stands; writes = writes })
@@ -111,9 +111,3 @@ told_of result work pass pass' s s' t t' v j is stands may = elim may [
 
 pub none_ordered : IsOrdered []
 none_ordered i j d before few = absurd (omega (arith, few))
-
--- the texts of the journal that tells of these items
-pub done_text : (j : Journal) (from to : Path) (items : List Planned) → j.source ≡ from → j.target ≡ to → AreTold j items → (text : List ℕ) → Contains (journal_text (done_of j) ∷ []) text → Contains (journal_texts j.names from to items) text
-done_text j from to items source target told text among =
-    let same : done_of j ≡ done_of (new_journal j.names from to items) = λ i. record { phase = Done; names = j.names; source = source i; target = target i; items = told.1 i; plan = told.0 i } in
-    in_second (journal_text (new_journal j.names from to items) ∷ []) (journal_text (done_of (new_journal j.names from to items)) ∷ []) text (subst (λ k. Contains (journal_text k ∷ []) text) same among)

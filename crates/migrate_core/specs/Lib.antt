@@ -11,3 +11,4 @@ pub mod Copying
 pub mod Causes
 pub mod Written
 pub mod Completing
+pub mod Lasting

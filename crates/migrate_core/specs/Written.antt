@@ -10,6 +10,8 @@ use Rattle.folder_spec.specs.State.{State, BeginsWith}
 use Rattle.folder_spec.specs.View.{View}
 use Rattle.move_journal.specs.Journal.{IsJournal, journal_text}
 use Rattle.move_journal.specs.declared.journal.Journal.{Journal}
+use Rattle.move_journal.specs.declared.journal.Phase.{Phase}
+use Rattle.move_journal.specs.declared.journal.Phase.TheVariants.{Building, Done}
 use Rattle.move_journal.specs.Reading.{StandsIn}
 use Rattle.plain_tree.specs.Names as plain
 use Rattle.plain_tree.specs.declared.NodeKind.{NodeKind}
@@ -194,14 +196,22 @@ lacked there items = filter (λ item. not (is_there there item)) items
 abbrev pub journal_texts : NameMap → Path → Path → List Planned → List (List ℕ)
 journal_texts names from to items = journal_text (new_journal names from to items) ∷ journal_text (done_of (new_journal names from to items)) ∷ []
 
+abbrev pub texts_in : Phase → List ℕ → List (List ℕ)
+texts_in Building text = text ∷ []
+texts_in Done text = []
+
+-- the text that a migration may still write that goes on by this journal: that all is done, where that isn't said yet
+abbrev pub done_texts : Journal → List (List ℕ)
+done_texts journal = texts_in journal.phase (journal_text (done_of journal))
+
 -- by the answer: all of them after Ok, or the first of them
 abbrev pub WritesBy : {T : Type 0} → Result T MoveFault → OpenedVault → OpenedVault → List Planned → List (List ℕ) → Option ByteStream → Option ByteStream → Option Told → Option Told → Type 0
 WritesBy (Ok value) = WritesAll
 WritesBy (Err fault) = WritesFirst fault
 
--- Between two opened vaults, the items of the source, at their mapped paths, that the target lacks. Nothing comes to the target unless the
--- stage can be made ready.
-pub record WritesLacked {T : Type 0} (result : Result T MoveFault) (names : NameMap) (from to : OpenedVault) (work : Path) (stream stream' : Option ByteStream) (told told' : Option Told) : Type 0 where
+-- Between two opened vaults, the items of the source, at their mapped paths, that the target lacks, and these texts by the source's items.
+-- Nothing comes to the target unless the stage can be made ready.
+pub record WritesLacked {T : Type 0} (texts : List Planned → List (List ℕ)) (result : Result T MoveFault) (names : NameMap) (from to : OpenedVault) (work : Path) (stream stream' : Option ByteStream) (told told' : Option Told) : Type 0 where
   pub items : List Planned
   pub mapped : List Planned
   pub there : List Planned
@@ -209,7 +219,7 @@ pub record WritesLacked {T : Type 0} (result : Result T MoveFault) (names : Name
   pub mapped_are : IsMappedPlan names items mapped
   pub there_are : IfSeen told (λ v. AreItemsOf to v there)
   pub unready : WritesBeside to.root (λ file. ⊥) told told' ⊎ IfSeen told (λ v. Empties v work (Ok tt))
-  pub writes : WritesBy result from to (lacked there mapped) (journal_texts names from.root to.root items) stream stream' told told'
+  pub writes : WritesBy result from to (lacked there mapped) (texts items) stream stream' told told'
 
 -- a test refuses
 abbrev pub IsRefusal : {T : Type 0} → Result T MoveFault → Type 0
@@ -223,26 +233,31 @@ pub record WritesNothing {T : Type 0} (result : Result T MoveFault) (stream stre
   pub still : ChangesNothing told told'
 
 -- where a test refuses nothing is changed
-abbrev pub MayWrite : {T : Type 0} → Result T MoveFault → NameMap → OpenedVault → OpenedVault → Path → Option ByteStream → Option ByteStream → Option Told → Option Told → Type 0
-MayWrite result names from to work stream stream' told told' = WritesNothing result stream stream' told told' ⊎ WritesLacked result names from to work stream stream' told told'
+abbrev pub MayWriteBy : {T : Type 0} → (List Planned → List (List ℕ)) → Result T MoveFault → NameMap → OpenedVault → OpenedVault → Path → Option ByteStream → Option ByteStream → Option Told → Option Told → Type 0
+MayWriteBy texts result names from to work stream stream' told told' = WritesNothing result stream stream' told told' ⊎ WritesLacked texts result names from to work stream stream' told told'
 
 -- of the vaults that two roots and their passphrases are
-pub record WritesTree {T : Type 0} (result : Result T MoveFault) (names : NameMap) (from to work : Path) (from_pass to_pass : List ℕ) (stream stream' : Option ByteStream) (told told' : Option Told) : Type 0 where
+pub record WritesTree {T : Type 0} (texts : List Planned → List (List ℕ)) (result : Result T MoveFault) (names : NameMap) (from to work : Path) (from_pass to_pass : List ℕ) (stream stream' : Option ByteStream) (told told' : Option Told) : Type 0 where
   pub source : Vault
   pub target : Vault
   pub opens_source : IfSeen told (λ v. IsVault (under from v) from_pass source)
   pub opens_target : IfSeen told (λ v. IsVault (under to v) to_pass target)
-  pub writes : WritesLacked result names (opened_in from source) (opened_in to target) work stream stream' told told'
+  pub writes : WritesLacked texts result names (opened_in from source) (opened_in to target) work stream stream' told told'
 
+abbrev pub MayWriteTreeBy : {T : Type 0} → (List Planned → List (List ℕ)) → Result T MoveFault → NameMap → (from to work : Path) (from_pass to_pass : List ℕ) → Option ByteStream → Option ByteStream → Option Told → Option Told → Type 0
+MayWriteTreeBy texts result names from to work from_pass to_pass stream stream' told told' = WritesNothing result stream stream' told told' ⊎ WritesTree texts result names from to work from_pass to_pass stream stream' told told'
+
+-- with both texts of the journal of a migration that begins
 abbrev pub MayWriteTree : {T : Type 0} → Result T MoveFault → NameMap → (from to work : Path) (from_pass to_pass : List ℕ) → Option ByteStream → Option ByteStream → Option Told → Option Told → Type 0
-MayWriteTree result names from to work from_pass to_pass stream stream' told told' = WritesNothing result stream stream' told told' ⊎ WritesTree result names from to work from_pass to_pass stream stream' told told'
+MayWriteTree result names from to = MayWriteTreeBy (journal_texts names from to) result names from to
 
--- of those that the journal tells which stands in the work folder
+-- Of those that the journal tells which stands in the work folder. That all is done is the one text that is written, and none where that is
+-- said already.
 pub record WritesTold {T : Type 0} (result : Result T MoveFault) (work : Path) (from_pass to_pass : List ℕ) (stream stream' : Option ByteStream) (told told' : Option Told) (v : View) : Type 0 where
   pub journal : Journal
   pub is : IsJournal journal
   pub stands : StandsIn work journal v
-  pub writes : WritesTree result journal.names journal.source journal.target work from_pass to_pass stream stream' told told'
+  pub writes : WritesTree (λ items. done_texts journal) result journal.names journal.source journal.target work from_pass to_pass stream stream' told told'
 
 abbrev pub MayWriteTold : {T : Type 0} → Result T MoveFault → Path → (from_pass to_pass : List ℕ) → Option ByteStream → Option ByteStream → Option Told → Option Told → View → Type 0
 MayWriteTold result work from_pass to_pass stream stream' told told' v = WritesNothing result stream stream' told told' ⊎ WritesTold result work from_pass to_pass stream stream' told told' v

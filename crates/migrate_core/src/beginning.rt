@@ -12,14 +12,16 @@ ghost use Rattle.migrate_core.specs.Completing.{CanBegin, IsOfChance};
 ghost use Rattle.migrate_core.specs.Copying.{MayBegin, StayGood};
 ghost use Rattle.migrate_core.specs.Drawing.{DrewBy};
 ghost use Rattle.migrate_core.specs.Faults.{Blamed, IsOfTest, is_of_apart, is_of_begin};
+ghost use Rattle.migrate_core.specs.Lasting.{Finishes, FinishesSettled};
 ghost use Rattle.migrate_core.specs.Leading.{KeepsSettled, LeadsEach};
 ghost use Rattle.migrate_core.specs.Limits.{StopsElsewhere, EndsBy, IsOfLimit, PassesInTree};
 ghost use Rattle.migrate_core.specs.Moved.{IsTidyWork, Moved, MovesTree, Placed, lacking};
 ghost use Rattle.migrate_core.specs.Moving.{MovesOnly};
-ghost use Rattle.migrate_core.specs.Written.{MayWrite, MayWriteTree, WritesBeside, WritesBy, journal_texts, lacked};
+ghost use Rattle.migrate_core.specs.Written.{MayWriteBy, MayWriteTree, WritesBeside, WritesBy, journal_texts, lacked};
 ghost use Rattle.migrate_core.specs.Sharing.{IsFilled, IsOfTaken, SharesFrom, SharesInTree, SharesWhereTidy};
 ghost use Rattle.migrate_core.specs.Sides.{AllowsEach, AllowsEachMapped, AreItemsToMove, IsAsked};
 ghost use Rattle.folder_spec.specs.Apart.{AreSeparate};
+ghost use Rattle.migration_sides.specs.Lasting.{Lasts};
 ghost use Rattle.migration_sides.specs.Tests.{all_pass};
 ghost use Rattle.migration_sides.specs.Unchanged.{ChangesNothing};
 
@@ -64,6 +66,8 @@ pub fn begin<F: Folder, R: Randoms>(
     requires source { IsParsed source.now }
     requires target { IsParsed target.now }
     ensures moved { IfOk result (λ done. MovesTree names source.now target.now work.now source_pass.now target_pass.now done (F.told folder.old) (F.told folder.new)) }
+    ensures finishes { OnOk result ((g : Migration) → IsAsked g names source.now target.now work.now → IfSeen (F.told folder.old) (λ v. AreOpenedBy g source_pass.now target_pass.now v) → Finishes g (F.told folder.old) (F.told folder.new)) }
+    ensures lasts { OnOk result (Lasts (F.told folder.new)) }
     ensures guard { (g : Migration) → IsAsked g names source.now target.now work.now → IfSeen (F.told folder.old) (λ v. AreOpenedBy g source_pass.now target_pass.now v) → KeepsGuarded g (F.told folder.old) (F.told folder.new) }
     ensures tidy { IfOk result (λ done. IfSeen (F.told folder.new) (λ v. IsTidyWork work.now v)) }
     ensures moves { MovesOnly work.now target.now (F.told folder.old) (F.told folder.new) }
@@ -113,6 +117,8 @@ fn begin_settled<F: Folder, R: Randoms>(
     requires target { IsParsed target.now }
     requires apart { AreSeparate source.now target.now work.now }
     ensures moved { IfOk result (λ done. MovesTree names source.now target.now work.now source_pass.now target_pass.now done (F.told folder.old) (F.told folder.new)) }
+    ensures finishes { OnOk result ((g : Migration) → IsAsked g names source.now target.now work.now → IfSeen (F.told folder.old) (λ v. AreOpenedBy g source_pass.now target_pass.now v) → FinishesSettled g (F.told folder.old) (F.told folder.new)) }
+    ensures lasts { OnOk result (Lasts (F.told folder.new)) }
     ensures guard { (g : Migration) → IsAsked g names source.now target.now work.now → IfSeen (F.told folder.old) (λ v. AreOpenedBy g source_pass.now target_pass.now v) → KeepsSettled g (F.told folder.old) (F.told folder.new) }
     ensures tidy { IfOk result (λ done. IfSeen (F.told folder.new) (λ v. IsTidyWork work.now v)) }
     ensures moves { MovesOnly work.now target.now (F.told folder.old) (F.told folder.new) }
@@ -154,6 +160,7 @@ fn begin_with<F: Folder, R: Randoms>(
     requires target { IsParsed sides.now.target.root }
     requires apart { AreSeparate sides.now.source.root sides.now.target.root work.now }
     ensures moved { Moved sides.now.names sides.now.source sides.now.target work.now (F.told folder.new) result }
+    ensures lasts { OnOk result (Lasts (F.told folder.new)) }
     ensures placed { Placed sides.now.names sides.now.source sides.now.target (F.told folder.old) result }
     ensures guard { LeadsEach sides.now.names sides.now.source sides.now.target work.now Unbegun Finished (F.told folder.old) (F.told folder.new) result }
     ensures tidy { IfOk result (λ done. IfSeen (F.told folder.new) (λ v. IsTidyWork work.now v)) }
@@ -164,7 +171,7 @@ fn begin_with<F: Folder, R: Randoms>(
     ensures drew { DrewBy result (R.left random.old) (R.left random.new) }
     ensures cause { IfSeen (F.told folder.old) (λ v. Unless result (BeginsWith sides.now.names sides.now.source sides.now.target work.now v result)) }
     ensures ends { EndsBy (StayGood sides.now.source sides.now.target (F.told folder.old) (F.told folder.new)) (SharesWhereTidy sides.now.names sides.now.source sides.now.target (R.left random.old) (R.left random.new) (F.told folder.old) (F.told folder.new)) sides.now.names sides.now.source sides.now.target (F.told folder.new) result }
-    ensures written { MayWrite result sides.now.names sides.now.source sides.now.target work.now (R.left random.old) (R.left random.new) (F.told folder.old) (F.told folder.new) }
+    ensures written { MayWriteBy (journal_texts sides.now.names sides.now.source.root sides.now.target.root) result sides.now.names sides.now.source sides.now.target work.now (R.left random.old) (R.left random.new) (F.told folder.old) (F.told folder.new) }
     ensures tested { (F.told folder.new ≡ F.told folder.old) ⊎ IfSeen (F.told folder.old) (λ v. IfErr result IsOfPlacing × TestsToBegin sides.now.names sides.now.source sides.now.target v all_pass (Ok tt)) }
 {
     draws_compose();
@@ -211,6 +218,7 @@ fn move_all<F: Folder, R: Randoms>(
     requires named { AllowsEachMapped sides.now.names (format_of sides.now.target.vault) items.now.own.items }
     requires copying { MayBegin sides.now.names sides.now.source sides.now.target [] (F.told folder.old) }
     ensures moved { Moved sides.now.names sides.now.source sides.now.target work.now (F.told folder.new) result }
+    ensures lasts { OnOk result (Lasts (F.told folder.new)) }
     ensures placed { IfOk result (λ done. IfSeen (F.told folder.old) (λ v. done.placed ≡ lacking [] items.now.mapped.items)) }
     ensures guard { LeadsEach sides.now.names sides.now.source sides.now.target work.now Unbegun Finished (F.told folder.old) (F.told folder.new) result }
     ensures tidy { IfOk result (λ done. IfSeen (F.told folder.new) (λ v. IsTidyWork work.now v)) }

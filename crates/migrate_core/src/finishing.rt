@@ -18,20 +18,25 @@ ghost use Rattle.migrate_core.specs.Causes.{IsStop, StopsLater, StopsSeen, nothi
 ghost use Rattle.migrate_core.specs.Copying.{CopiesAll, HasCopied};
 ghost use Rattle.migrate_core.specs.Drawing.{DrewBy};
 ghost use Rattle.migrate_core.specs.Faults.{Blamed, IsOfTest, is_of_apart};
+ghost use Rattle.migrate_core.specs.Lasting.{Clears, ClearsReady, KeepsTexts};
 ghost use Rattle.migrate_core.specs.Leading.{FinishesEach, LeadsTold, progress_of};
 ghost use Rattle.migrate_core.specs.Limits.{StopsElsewhere, EndsBy, PassesSeen};
 ghost use Rattle.migrate_core.specs.Moved.{Moved, StaysTidyWork, done_of, lacking};
 ghost use Rattle.migrate_core.specs.Moving.{MovesOnly};
-ghost use Rattle.migrate_core.specs.Written.{WritesBeside, WritesBy, lacked};
+ghost use Rattle.migrate_core.specs.Written.{WritesBeside, WritesBy, done_texts, lacked};
 ghost use Rattle.migrate_core.specs.Sharing.{IsFilled, SharesFrom};
 ghost use Rattle.migrate_core.specs.Sides.{AllowsEach, AreItemsToMove, AreTold, IsMappedWalk, StandAll};
+ghost use Rattle.migration_sides.specs.Lasting.{Lasts};
 ghost use Rattle.migration_sides.specs.Sides.{IsWalked};
 
 use crate::fault::MoveFault;
 use crate::placing::{Done, place_missing};
 use folder_model::{FPath, Folder};
 use migration_sides::{Sides, walk_one};
-use migration_spec::laws::{guarded_migrations_are_seen, journals_keep_migrations_guarded};
+use migration_spec::laws::{
+    guarded_migrations_are_seen, journals_keep_migrations_guarded,
+    settling_and_entering_keep_migrations_guarded,
+};
 use move_journal::{Journal, Phase, write};
 use port_model::Randoms;
 use port_model::laws::draws_compose;
@@ -80,6 +85,9 @@ pub(crate) fn go_on<F: Folder, R: Randoms>(
     ensures building { journal.phase ≡ Phase.Building → LeadsTold sides.now.source sides.now.target work.now journal Begun Finished (F.told folder.old) (F.told folder.new) result }
     ensures done { journal.phase ≡ Phase.Done → StandAll items.now.mapped.items there.now → LeadsTold sides.now.source sides.now.target work.now journal Finished Finished (F.told folder.old) (F.told folder.new) result }
     ensures tidy { IfOk result (λ done. StaysTidyWork work.now (F.told folder.old) (F.told folder.new)) }
+    ensures clears { OnOk result (Clears work.now (F.told folder.old) (F.told folder.new)) }
+    ensures lasts { OnOk result (Lasts (F.told folder.new)) }
+    ensures journal { KeepsTexts work.now journal (F.told folder.old) (F.told folder.new) }
     ensures moves { MovesOnly work.now sides.now.target.root (F.told folder.old) (F.told folder.new) }
     ensures grows { F.faults folder.old ≤ F.faults folder.new }
     ensures random { R.faults random.old ≤ R.faults random.new }
@@ -87,7 +95,7 @@ pub(crate) fn go_on<F: Folder, R: Randoms>(
     ensures drew { DrewBy result (R.left random.old) (R.left random.new) }
     ensures moving { IfErr result (StopsSeen (HasCopied sides.now.names sides.now.source sides.now.target there.now) (F.told folder.old) sides.now.source items.now.mapped.items) }
     ensures ends { EndsBy (CopiesAll sides.now.names sides.now.source sides.now.target there.now items.now.mapped.items (F.told folder.old) (F.told folder.new)) (SharesFrom (IsFilled sides.now.names sides.now.source sides.now.target there.now) sides.now.target items.now.mapped.items (R.left random.old) (R.left random.new) (F.told folder.old) (F.told folder.new)) sides.now.names sides.now.source sides.now.target (F.told folder.new) result }
-    ensures written { IsOrdered there.now → WritesBy result sides.now.source sides.now.target (lacked there.now items.now.mapped.items) (journal_text (done_of journal) ∷ []) (R.left random.old) (R.left random.new) (F.told folder.old) (F.told folder.new) }
+    ensures written { IsOrdered there.now → WritesBy result sides.now.source sides.now.target (lacked there.now items.now.mapped.items) (done_texts journal) (R.left random.old) (R.left random.new) (F.told folder.old) (F.told folder.new) }
 {
     draws_compose();
     let mapped = items.mapped.items.as_slice();
@@ -118,13 +126,16 @@ pub(crate) fn finish<F: Folder>(
     ensures placed { IfOk result (λ done. done.placed ≡ placed) }
     ensures guard { LeadsTold sides.now.source sides.now.target work.now journal (progress_of journal.phase) Finished (F.told folder.old) (F.told folder.new) result }
     ensures tidy { IfOk result (λ done. StaysTidyWork work.now (F.told folder.old) (F.told folder.new)) }
+    ensures clears { OnOk result (ClearsReady work.now (F.told folder.old) (F.told folder.new)) }
+    ensures lasts { OnOk result (Lasts (F.told folder.new)) }
+    ensures journal { KeepsTexts work.now journal (F.told folder.old) (F.told folder.new) }
     ensures moves { MovesOnly work.now sides.now.target.root (F.told folder.old) (F.told folder.new) }
     ensures grows { F.faults folder.old ≤ F.faults folder.new }
     ensures blamed { IfErr result (Blamed is_of_apart (CountRose (F.faults folder.old) (F.faults folder.new)) ⊥) }
     ensures tested { IfErr result IsOfTest }
     ensures moving { IfErr result (StopsLater (HasCopied sides.now.names sides.now.source sides.now.target items.now.mapped.items) (F.told folder.old)) }
     ensures ends { EndsBy (CopiesAll sides.now.names sides.now.source sides.now.target items.now.mapped.items items.now.mapped.items (F.told folder.old) (F.told folder.new)) (Unit {0}) sides.now.names sides.now.source sides.now.target (F.told folder.new) result }
-    ensures written { WritesBeside sides.now.target.root (λ file. Contains (journal_text (done_of journal) ∷ []) file) (F.told folder.old) (F.told folder.new) }
+    ensures written { WritesBeside sides.now.target.root (λ file. Contains (done_texts journal) file) (F.told folder.old) (F.told folder.new) }
 {
     files_have_their_contents();
     guarded_migrations_are_seen();
@@ -167,7 +178,7 @@ fn test_same<F: Folder>(
     }
 }
 
-// Writes the journal anew where it doesn't say yet that all is done.
+// Writes the journal anew where it doesn't say yet that all is done; and else settles, so that what was done before lasts.
 fn say_done<F: Folder>(
     alloc: Global,
     folder: &mut F,
@@ -179,17 +190,22 @@ fn say_done<F: Folder>(
     requires stands { journal.phase ≡ Phase.Done → IfSeen (F.told folder.old) (λ v. StandsIn work.now journal v) }
     ensures says { OnOk result (IfSeen (F.told folder.new) (λ v. StandsIn work.now (done_of journal) v)) }
     ensures tidy { OnOk result (StaysTidyWork work.now (F.told folder.old) (F.told folder.new)) }
+    ensures clears { OnOk result (ClearsReady work.now (F.told folder.old) (F.told folder.new)) }
+    ensures lasts { OnOk result (Lasts (F.told folder.new)) }
+    ensures journal { KeepsTexts work.now journal (F.told folder.old) (F.told folder.new) }
     ensures guard { FinishesEach work.now journal (F.told folder.old) (F.told folder.new) result }
     ensures moves { (root : Path) → AreApart root work.now → MovesOnly work.now root (F.told folder.old) (F.told folder.new) }
     ensures grows { F.faults folder.old ≤ F.faults folder.new }
     ensures blamed { IfErr result (Blamed is_of_apart (CountRose (F.faults folder.old) (F.faults folder.new)) ⊥) }
     ensures uncompared { IfErr result StopsElsewhere }
     ensures moving { IfErr result (IsStop (Unit {0}) nothing_stops) }
-    ensures written { (root : Path) → AreApart root work.now → WritesBeside root (λ file. Contains (journal_text (done_of journal) ∷ []) file) (F.told folder.old) (F.told folder.new) }
+    ensures written { (root : Path) → AreApart root work.now → WritesBeside root (λ file. Contains (done_texts journal) file) (F.told folder.old) (F.told folder.new) }
 {
+    guarded_migrations_are_seen();
     journals_keep_migrations_guarded();
+    settling_and_entering_keep_migrations_guarded();
     match journal.phase {
-        Phase::Done => Ok(()),
+        Phase::Done => Ok(folder.settle()?),
         Phase::Building => {
             let done = Journal {
                 phase: Phase::Done,

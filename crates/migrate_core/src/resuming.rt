@@ -14,12 +14,14 @@ ghost use Rattle.migrate_core.specs.Completing.{CanResume, IsOfChance};
 ghost use Rattle.migrate_core.specs.Copying.{MayBegin, StayGood};
 ghost use Rattle.migrate_core.specs.Drawing.{DrewBy};
 ghost use Rattle.migrate_core.specs.Faults.{Blamed, IsOfTest, is_of_resume};
+ghost use Rattle.migrate_core.specs.Lasting.{Clears, EndsEach, EndsEachSettled, KeepsEachJournal, KeepsEachText, KeepsTexts};
 ghost use Rattle.migrate_core.specs.Leading.{KeepsSettled, LeadsTold, progress_of};
 ghost use Rattle.migrate_core.specs.Limits.{StopsElsewhere, EndsBy, IsOfLimit, PassesAsTold, PassesInTree, PassesSeen};
 ghost use Rattle.migrate_core.specs.Moved.{done_of, Moved, MovesTold, MovesTree, Placed, lacking};
 ghost use Rattle.migrate_core.specs.Moving.{MovesOnly};
-ghost use Rattle.migrate_core.specs.Written.{MayWrite, MayWriteTold, MayWriteTree, WritesBeside, WritesBy, lacked};
+ghost use Rattle.migrate_core.specs.Written.{MayWriteBy, MayWriteTold, MayWriteTreeBy, WritesBeside, WritesBy, done_texts, lacked};
 ghost use Rattle.migrate_core.specs.Sides.{AllowsEach, AreItemsToMove, AreTold, IsInUse, IsMappedWalk};
+ghost use Rattle.migration_sides.specs.Lasting.{Lasts};
 ghost use Rattle.migration_sides.specs.Sides.{IsWalked};
 ghost use Rattle.folder_spec.specs.Apart.{AreSeparate};
 ghost use Rattle.migration_sides.specs.Tests.{all_pass, nothing_follows};
@@ -64,6 +66,10 @@ pub fn resume<F: Folder, R: Randoms>(
     ensures moves { (v : View) (journal : Journal) → IsSeen (F.told folder.old) v → IsJournal journal → StandsIn work.now journal v
         → MovesOnly work.now journal.target (F.told folder.old) (F.told folder.new) }
     ensures moved { IfOk result (λ done. IfSeen (F.told folder.old) (λ v. MovesTold work.now source_pass.now target_pass.now done (F.told folder.old) (F.told folder.new) v)) }
+    ensures finishes { OnOk result (EndsEach work.now source_pass.now target_pass.now (F.told folder.old) (F.told folder.new)) }
+    ensures lasts { OnOk result (Lasts (F.told folder.new)) }
+    ensures clears { OnOk result (Clears work.now (F.told folder.old) (F.told folder.new)) }
+    ensures journal { KeepsEachJournal work.now (F.told folder.old) (F.told folder.new) }
     ensures grows { F.faults folder.old ≤ F.faults folder.new }
     ensures random { R.faults random.old ≤ R.faults random.new }
     ensures blamed { IfErr result (Blamed is_of_resume (CountRose (F.faults folder.old) (F.faults folder.new)) (CountRose (R.faults random.old) (R.faults random.new))) }
@@ -94,6 +100,10 @@ fn resume_settled<F: Folder, R: Randoms>(
     ensures moves { (v : View) (journal : Journal) → IsSeen (F.told folder.old) v → IsJournal journal → StandsIn work.now journal v
         → MovesOnly work.now journal.target (F.told folder.old) (F.told folder.new) }
     ensures moved { IfOk result (λ done. IfSeen (F.told folder.old) (λ v. MovesTold work.now source_pass.now target_pass.now done (F.told folder.old) (F.told folder.new) v)) }
+    ensures clears { OnOk result (Clears work.now (F.told folder.old) (F.told folder.new)) }
+    ensures lasts { OnOk result (Lasts (F.told folder.new)) }
+    ensures journal { KeepsEachText work.now (F.told folder.old) (F.told folder.new) }
+    ensures finishes { OnOk result (EndsEachSettled work.now source_pass.now target_pass.now (F.told folder.old) (F.told folder.new)) }
     ensures grows { F.faults folder.old ≤ F.faults folder.new }
     ensures random { R.faults random.old ≤ R.faults random.new }
     ensures blamed { IfErr result (Blamed is_of_resume (CountRose (F.faults folder.old) (F.faults folder.new)) (CountRose (R.faults random.old) (R.faults random.new))) }
@@ -145,13 +155,17 @@ fn resume_told<F: Folder, R: Randoms>(
     ensures guard { (g : Migration) → g.work ≡ work.now → IfSeen (F.told folder.old) (λ v. AreOpenedBy g source_pass.now target_pass.now v) → KeepsSettled g (F.told folder.old) (F.told folder.new) }
     ensures moves { MovesOnly work.now journal.target (F.told folder.old) (F.told folder.new) }
     ensures moved { IfOk result (λ done. MovesTree journal.names journal.source journal.target work.now source_pass.now target_pass.now done (F.told folder.old) (F.told folder.new)) }
+    ensures clears { OnOk result (Clears work.now (F.told folder.old) (F.told folder.new)) }
+    ensures lasts { OnOk result (Lasts (F.told folder.new)) }
+    ensures journal { KeepsTexts work.now journal (F.told folder.old) (F.told folder.new) }
+    ensures finishes { OnOk result (EndsEachSettled work.now source_pass.now target_pass.now (F.told folder.old) (F.told folder.new)) }
     ensures grows { F.faults folder.old ≤ F.faults folder.new }
     ensures random { R.faults random.old ≤ R.faults random.new }
     ensures blamed { IfErr result (Blamed is_of_resume (CountRose (F.faults folder.old) (F.faults folder.new)) (CountRose (R.faults random.old) (R.faults random.new))) }
     ensures drew { DrewBy result (R.left random.old) (R.left random.new) }
     ensures cause { IfSeen (F.told folder.old) (λ v. Unless result (ResumesTold work.now source_pass.now target_pass.now v journal result)) }
     ensures too_long { IfErr result (IsOfLimit (PassesInTree journal.names journal.source journal.target source_pass.now target_pass.now (F.told folder.old) (F.told folder.new))) }
-    ensures written { IfSeen (F.told folder.old) (λ v. MayWriteTree result journal.names journal.source journal.target work.now source_pass.now target_pass.now (R.left random.old) (R.left random.new) (F.told folder.old) (F.told folder.new)) }
+    ensures written { IfSeen (F.told folder.old) (λ v. MayWriteTreeBy (λ items. done_texts journal) result journal.names journal.source journal.target work.now source_pass.now target_pass.now (R.left random.old) (R.left random.new) (F.told folder.old) (F.told folder.new)) }
     ensures tested { (F.told folder.new ≡ F.told folder.old) ⊎ IfSeen (F.told folder.old) (λ v. IfErr result IsOfPlacing × PassesTold work.now source_pass.now target_pass.now journal v) }
 {
     draws_compose();
@@ -207,6 +221,9 @@ fn resume_with<F: Folder, R: Randoms>(
     requires target_named { journal.target ≡ sides.now.target.root }
     requires names_named { journal.names ≡ sides.now.names }
     ensures moved { Moved journal.names sides.now.source sides.now.target work.now (F.told folder.new) result }
+    ensures clears { OnOk result (Clears work.now (F.told folder.old) (F.told folder.new)) }
+    ensures lasts { OnOk result (Lasts (F.told folder.new)) }
+    ensures journal { KeepsTexts work.now journal (F.told folder.old) (F.told folder.new) }
     ensures placed { Placed sides.now.names sides.now.source sides.now.target (F.told folder.old) result }
     ensures guard { LeadsTold sides.now.source sides.now.target work.now journal (progress_of journal.phase) Finished (F.told folder.old) (F.told folder.new) result }
     ensures moves { MovesOnly work.now sides.now.target.root (F.told folder.old) (F.told folder.new) }
@@ -216,7 +233,7 @@ fn resume_with<F: Folder, R: Randoms>(
     ensures drew { DrewBy result (R.left random.old) (R.left random.new) }
     ensures cause { IfSeen (F.told folder.old) (λ v. Unless result (ResumesWith sides.now.source sides.now.target work.now journal v result)) }
     ensures ends { EndsBy (StayGood sides.now.source sides.now.target (F.told folder.old) (F.told folder.new)) (Unit {0}) sides.now.names sides.now.source sides.now.target (F.told folder.new) result }
-    ensures written { IfSeen (F.told folder.old) (λ v. MayWrite result journal.names sides.now.source sides.now.target work.now (R.left random.old) (R.left random.new) (F.told folder.old) (F.told folder.new)) }
+    ensures written { IfSeen (F.told folder.old) (λ v. MayWriteBy (λ items. done_texts journal) result journal.names sides.now.source sides.now.target work.now (R.left random.old) (R.left random.new) (F.told folder.old) (F.told folder.new)) }
     ensures tested { (F.told folder.new ≡ F.told folder.old) ⊎ IfSeen (F.told folder.old) (λ v. IfErr result IsOfPlacing × TestsToResume sides.now.source sides.now.target journal v all_pass (Ok tt)) }
 {
     draws_compose();
@@ -335,6 +352,9 @@ fn place_rest<F: Folder, R: Randoms>(
     requires names_named { journal.names ≡ sides.now.names }
     requires items_named { AreTold journal items.now.own.items }
     ensures moved { Moved journal.names sides.now.source sides.now.target work.now (F.told folder.new) result }
+    ensures clears { OnOk result (Clears work.now (F.told folder.old) (F.told folder.new)) }
+    ensures lasts { OnOk result (Lasts (F.told folder.new)) }
+    ensures journal { KeepsTexts work.now journal (F.told folder.old) (F.told folder.new) }
     ensures placed { IfOk result (λ done. IfSeen (F.told folder.old) (λ v. done.placed ≡ lacking target.now.items items.now.mapped.items)) }
     ensures guard { LeadsTold sides.now.source sides.now.target work.now journal (progress_of journal.phase) Finished (F.told folder.old) (F.told folder.new) result }
     ensures moves { MovesOnly work.now sides.now.target.root (F.told folder.old) (F.told folder.new) }
@@ -345,7 +365,7 @@ fn place_rest<F: Folder, R: Randoms>(
     ensures cause { IfSeen (F.told folder.old) (λ v. Unless result (Moves (Empties v work.now) sides.now.source sides.now.target v items.now.mapped.items result)) }
     ensures ends { EndsBy (StayGood sides.now.source sides.now.target (F.told folder.old) (F.told folder.new)) (Unit {0}) sides.now.names sides.now.source sides.now.target (F.told folder.new) result }
     ensures unready { WritesBeside sides.now.target.root (λ file. ⊥) (F.told folder.old) (F.told folder.new) ⊎ IfSeen (F.told folder.old) (λ v. Empties v work.now (Ok tt)) }
-    ensures written { IfSeen (F.told folder.old) (λ v. WritesBy result sides.now.source sides.now.target (lacked target.now.items items.now.mapped.items) (journal_text (done_of journal) ∷ []) (R.left random.old) (R.left random.new) (F.told folder.old) (F.told folder.new)) }
+    ensures written { IfSeen (F.told folder.old) (λ v. WritesBy result sides.now.source sides.now.target (lacked target.now.items items.now.mapped.items) (done_texts journal) (R.left random.old) (R.left random.new) (F.told folder.old) (F.told folder.new)) }
 {
     draws_compose();
     guarded_migrations_are_seen();

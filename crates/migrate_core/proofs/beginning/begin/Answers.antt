@@ -14,6 +14,7 @@ use Rattle.migrate_core.specs.Faults.{is_of_apart, of_folder, of_step}
 use Rattle.migrate_core.specs.declared.placing.Done.{Done}
 use Rattle.migrate_core.proofs.Writings.{settle_writes}
 use Rattle.migrate_core.proofs.WrittenTrees.{refused_written, may_write_after, nothing_written}
+use Rattle.migrate_core.specs.Written.{journal_texts}
 use Rattle.migrate_core.proofs.Completing.{begin_completes, folder_chance, own_faults}
 use Rattle.migrate_core.proofs.Limits.{if_taken, in_tree_before, limit_more, none_compared, none_taken}
 use Rattle.migrate_core.specs.Limits.{PassesInTree}
@@ -26,6 +27,11 @@ use Rattle.migration_sides.proofs.Chains.{fault_as, refused_as}
 use Rattle.migrate_core.proofs.Tested.{folder_tested, step_tested}
 use Rattle.migration_sides.proofs.Unchanged.{tested_settled, unchanged, unchanged_settled}
 use Rattle.migration_spec.specs.Guard.{Guarded}
+use Rattle.migrate_core.proofs.Lastings.{on_ok_more, settle_ends}
+use Rattle.migrate_core.specs.Lasting.{Finishes, FinishesSettled}
+use Rattle.migrate_core.specs.Sides.{IsAsked}
+use Rattle.folder_spec.specs.Seen.{IfSeen}
+use Rattle.migration_spec.specs.Guard.{AreOpenedBy, Migration}
 
 pub returns-in_err-test_apart-clause-guard : goal.returns-in_err-test_apart-clause-guard
 returns-in_err-test_apart-clause-guard g c = λ migration asked opened. still_guarded (Guarded migration) migration (g.F.Folder.told c.args.folder.now) (g.F.Folder.told c.args.folder.now) (λ s is. is) refl
@@ -109,7 +115,7 @@ returns-clause-written g c v seen =
     let settled = g.F.Folder.told c.settle.new.self in
     let known = settle_seen told settled c.in_ok-settle.field-0 c.in_ok-settle.ensures.changes in
     may_write_after left (g.R.Randoms.left c.begin_settled.new.random) told settled (g.F.Folder.told c.begin_settled.new.folder) known (unchanged_settled told settled c.settle.result c.settle.ensures.changes) (settle_writes told settled c.settle.result c.settle.ensures.changes)
-    c.begin_settled.result c.args.names c.args.source.now c.args.target.now c.args.work.now c.args.source_pass.now c.args.target_pass.now (c.begin_settled.ensures.written v (known v seen))
+    (journal_texts c.args.names c.args.source.now c.args.target.now) c.begin_settled.result c.args.names c.args.source.now c.args.target.now c.args.work.now c.args.source_pass.now c.args.target_pass.now (c.begin_settled.ensures.written v (known v seen))
 
 pub returns-in_err-test_apart-clause-tested : goal.returns-in_err-test_apart-clause-tested
 returns-in_err-test_apart-clause-tested g c = inl (unchanged _ _ refl)
@@ -217,3 +223,17 @@ returns-in_err-test_apart-clause-drew g c = drew_refused c.draws_compose.ensures
 
 pub returns-in_err-settle-clause-drew : goal.returns-in_err-settle-clause-drew
 returns-in_err-settle-clause-drew g c = drew_refused c.draws_compose.ensures.none (g.R.Randoms.left c.args.random.now) c.from_residual-in_err-settle.result _ c.from_residual-in_err-settle.ensures.1 (folder_tested c.in_err-settle.field-0.0).1
+
+pub returns-clause-finishes : goal.returns-clause-finishes
+returns-clause-finishes g c =
+    let law = c.settling_and_entering_keep_migrations_guarded.ensures in
+    let t0 = g.F.Folder.told c.args.folder.now in
+    let t1 = g.F.Folder.told c.settle.new.self in
+    let t2 = g.F.Folder.told c.begin_settled.new.folder in
+    let pass = c.args.source_pass.now in
+    let pass' = c.args.target_pass.now in
+    on_ok_more ((m : Migration) → IsAsked m c.args.names c.args.source.now c.args.target.now c.args.work.now → IfSeen t1 (λ v. AreOpenedBy m pass pass' v) → FinishesSettled m t1 t2)
+    ((m : Migration) → IsAsked m c.args.names c.args.source.now c.args.target.now c.args.work.now → IfSeen t0 (λ v. AreOpenedBy m pass pass' v) → Finishes m t0 t2) c.begin_settled.result
+    (λ ends migration asked opened.
+    settle_ends law.settles law.alone migration t0 t1 t2 c.in_ok-settle.field-0 (g.met.F.Folder.sound c.args.folder.now) (g.met.F.Folder.sound c.settle.new.self) c.in_ok-settle.ensures.changes
+    (ends migration asked (λ v seen. opened v (settle_seen_back t0 t1 (Ok c.in_ok-settle.field-0) c.in_ok-settle.ensures.changes v seen)))) c.begin_settled.ensures.finishes

@@ -23,7 +23,7 @@ use Rattle.migrate_core.specs.Faults.{of_step, of_work}
 use Rattle.migrate_core.specs.declared.placing.Done.{Done}
 use Rattle.work_folder.specs.Looking.{Tests}
 use Rattle.migrate_core.proofs.WrittenTrees.{nothing_written, tree_of}
-use Rattle.migrate_core.specs.Written.{MayWrite}
+use Rattle.migrate_core.specs.Written.{MayWriteBy, journal_texts}
 use Rattle.migrate_core.proofs.Limits.{limit_in_tree, none_compared, none_taken, shared_in_tree}
 use Rattle.migrate_core.specs.Copying.{StayGood}
 use Rattle.migrate_core.specs.Limits.{EndsBy, IsOfLimit, PassesInTree}
@@ -33,6 +33,12 @@ use Rattle.migrate_core.proofs.beginning.begin_settled.Goals as goal
 use Rattle.migration_sides.proofs.Chains.{fault_as, refused_as, then_passes}
 use Rattle.migrate_core.specs.declared.fault.MoveFault.TheVariants.{Failed, NoMemory}
 use Rattle.migrate_core.proofs.Tested.{step_tested, work_tested}
+use Rattle.migrate_core.proofs.Lastings.{leads_of, on_ok_by, settled_ends}
+use Rattle.migrate_core.specs.Lasting.{FinishesSettled}
+use Rattle.migrate_core.specs.Leading.{Leads}
+use Rattle.folder_spec.specs.Seen.{IfSeen}
+use Rattle.migration_spec.specs.Alone.{Finished}
+use Rattle.migration_spec.specs.Guard.{AreOpenedBy, Migration}
 
 pub returns-in_err-look-clause-guard : goal.returns-in_err-look-clause-guard
 returns-in_err-look-clause-guard g c migration asked opened = still_settled migration _ _ c.look.ensures.told
@@ -154,10 +160,12 @@ returns-clause-written g c v seen =
     let left2 = g.R.Randoms.left c.begin_with.new.random in
     let sides = c.in_ok-sides.sides in
     let loads = c.in_ok-sides.ensures in
-    tree_of c.begin_with.result c.args.names c.args.source.now c.args.target.now c.args.work.now c.args.source_pass.now c.args.target_pass.now sides.source sides.target left left2 told after loads.source loads.target
+    tree_of (journal_texts c.args.names c.args.source.now c.args.target.now) c.begin_with.result c.args.names c.args.source.now c.args.target.now c.args.work.now c.args.source_pass.now c.args.target_pass.now sides.source sides.target left left2 told after loads.source loads.target
     (λ w is. loads.opens_source w (subst (λ t. IsSeen t w) (sym c.look.ensures.told) is)) (λ w is. loads.opens_target w (subst (λ t. IsSeen t w) (sym c.look.ensures.told) is))
-    (subst (λ n. MayWrite c.begin_with.result n sides.source sides.target c.args.work.now left left2 told after) loads.names
-    (subst (λ t. MayWrite c.begin_with.result sides.names sides.source sides.target c.args.work.now left left2 t after) (c.load_both.ensures.told ∙ c.look.ensures.told) c.begin_with.ensures.written))
+    (subst₂ (λ p q. MayWriteBy (journal_texts c.args.names p q) c.begin_with.result c.args.names sides.source sides.target c.args.work.now left left2 told after) loads.source loads.target
+    (subst (λ n. MayWriteBy (journal_texts n sides.source.root sides.target.root) c.begin_with.result n sides.source sides.target c.args.work.now left left2 told after) loads.names
+    (subst (λ t. MayWriteBy (journal_texts sides.names sides.source.root sides.target.root) c.begin_with.result sides.names sides.source sides.target c.args.work.now left left2 t after) (c.load_both.ensures.told ∙ c.look.ensures.told)
+    c.begin_with.ensures.written)))
 
 pub returns-in_err-look-clause-tested : goal.returns-in_err-look-clause-tested
 returns-in_err-look-clause-tested g c = inl c.look.ensures.told
@@ -251,3 +259,25 @@ returns-in_err-look-clause-drew g c = drew_refused c.draws_compose.ensures.none 
 
 pub returns-in_err-sides-clause-drew : goal.returns-in_err-sides-clause-drew
 returns-in_err-sides-clause-drew g c = drew_refused c.draws_compose.ensures.none (g.R.Randoms.left c.args.random.now) c.from_residual-in_err-sides.result _ c.from_residual-in_err-sides.ensures.1 (step_tested c.in_err-sides.field-0.0).1
+
+pub returns-clause-finishes : goal.returns-clause-finishes
+returns-clause-finishes g c =
+    let t0 = g.F.Folder.told c.args.folder.now in
+    let t2 = g.F.Folder.told c.load_both.new.folder in
+    let t3 = g.F.Folder.told c.begin_with.new.folder in
+    let same : t2 ≡ t0 = c.load_both.ensures.told ∙ c.look.ensures.told in
+    let sides = c.in_ok-sides.sides in
+    let loads = c.in_ok-sides.ensures in
+    on_ok_by ((m : Migration) → IsAsked m c.args.names c.args.source.now c.args.target.now c.args.work.now → IfSeen t0 (λ v. AreOpenedBy m c.args.source_pass.now c.args.target_pass.now v) → FinishesSettled m t0 t3) c.begin_with.result
+    (λ done is_done migration asked opened.
+    settled_ends c.args.work.now (apart_from_both c.args.work.now sides.target.root) sides.target.root migration Unbegun t0 t3 (subst (λ t. MovesOnly c.args.work.now sides.target.root t t3) same c.begin_with.ensures.moves)
+    (λ a is settled.
+    let v = seen a.state in
+    let shown = subst (λ t. IsSeen t v) (sym c.look.ensures.told) (seen_of t0 a is) in
+    let named : IsAsked migration sides.names c.args.source.now c.args.target.now c.args.work.now = record { source = asked.source; target = asked.target; work = asked.work; names = asked.names ∙ sym loads.names } in
+    let found = begins c.roots_have_one_answer.ensures c.guarded_migrations_are_seen.ensures.case migration a.state sides.names sides.source sides.target c.args.source.now c.args.target.now c.args.work.now
+    c.args.source_pass.now c.args.target_pass.now named (opened v (seen_of t0 a is)) settled (c.in_ok-look.ensures.answer v (seen_of t0 a is)) (record { stands = loads.source; loads = loads.opens_source v shown })
+    (record { stands = loads.target; loads = loads.opens_target v shown }) in (
+      found.alone,
+      subst (λ t. Leads migration Unbegun Finished t t3) same (leads_of migration Unbegun Finished t2 t3 c.begin_with.result done is_done (c.begin_with.ensures.guard migration found.sides)),
+    )))

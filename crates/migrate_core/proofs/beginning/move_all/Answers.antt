@@ -22,7 +22,7 @@ use Rattle.migrate_core.specs.Copying.{BothHaveOwnFolders}
 use Rattle.migrate_core.specs.Faults.{of_folder, of_work}
 use Rattle.migrate_core.proofs.Writings.{changing_writes, in_first, journal_written, nothing_yet, beside_on, stop_is_test, texts_first, texts_then}
 use Rattle.migrate_core.proofs.WrittenTrees.{none_ordered}
-use Rattle.migrate_core.specs.Written.{WritesBeside, WritesBy, lacked}
+use Rattle.migrate_core.specs.Written.{WritesBeside, WritesBy, done_texts, lacked}
 use Rattle.move_journal.specs.Journal.{journal_text}
 use Rattle.migrate_core.proofs.Limits.{ends_more, ends_uncompared}
 use Rattle.migrate_core.specs.Copying.{CopiesAll, StayGood}
@@ -281,7 +281,7 @@ returns-clause-written g c =
     let left2 = g.R.Randoms.left c.go_on.new.random in
     texts_then c.draws_compose.ensures.composed from to (lacked [] mapped) (journal_text new ∷ []) (journal_text (done_of new) ∷ []) left left left2 told written after c.go_on.result
     (lacked_kept rule from to c.args.work.now items mapped [] told written (readied g here) c.requires.walked) (c.draws_compose.ensures.none left) (text_written g here)
-    (subst (λ (k : Journal). WritesBy c.go_on.result from to (lacked [] mapped) (journal_text (done_of k) ∷ []) left left2 written after) (is_new g here) (c.go_on.ensures.written none_ordered))
+    (subst (λ (k : Journal). WritesBy c.go_on.result from to (lacked [] mapped) (done_texts k) left left2 written after) (is_new g here) (c.go_on.ensures.written none_ordered))
 
 pub returns-clause-tidy : goal.returns-clause-tidy
 returns-clause-tidy g c =

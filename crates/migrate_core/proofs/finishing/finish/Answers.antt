@@ -9,10 +9,9 @@ use Rattle.migrate_core.specs.Leading.{Goes, progress_of}
 use Rattle.migrate_core.specs.Moving.{MovesOnly}
 use Rattle.migrate_core.specs.Sides.{AreItemsToMove, IsMappedWalk}
 use Rattle.migration_sides.specs.Sides.{IsWalked}
-use Rattle.migrate_core.specs.Moved.{StaysTidyWork, done_of}
+use Rattle.migrate_core.specs.Moved.{StaysTidyWork}
 use Rattle.migrate_core.proofs.Writings.{only_nowhere}
-use Rattle.move_journal.specs.Journal.{journal_text}
-use Rattle.migrate_core.specs.Written.{BringsOnlyTo, WritesBeside}
+use Rattle.migrate_core.specs.Written.{BringsOnlyTo, WritesBeside, done_texts}
 use Rattle.tree_match.specs.Trees.{IsSameOrTooLong, match_of, side_of}
 use Rattle.migrate_core.proofs.Causing.{never_more, stop_more}
 use Rattle.migrate_core.proofs.Compared.{copied_matches, copied_within, walk_stops}
@@ -29,6 +28,8 @@ use Rattle.migration_sides.proofs.Chains.{fault_as, refused_as}
 use Rattle.migrate_core.proofs.Tested.{step_tested}
 use Rattle.folder_spec.specs.Path.{Path}
 use Rattle.folder_spec.specs.Apart.{AreApart}
+use Rattle.migrate_core.proofs.Lastings.{texts_same}
+use Rattle.migrate_core.specs.Lasting.{ClearsReady, KeepsTexts}
 
 pub returns-in_err-target-clause-guard : goal.returns-in_err-target-clause-guard
 returns-in_err-target-clause-guard g c m sides tells =
@@ -122,16 +123,16 @@ returns-clause-moved g c =
     (c.say_done.ensures.moves to.root c.requires.apart.target) (c.say_done.ensures.moves from.root c.requires.apart.source) c.in_ok-say_done.ensures.says (length c.as_slice.result.now) (ap length c.as_slice.ensures)
 
 pub returns-in_err-target-clause-written : goal.returns-in_err-target-clause-written
-returns-in_err-target-clause-written g c = only_nowhere (BringsOnlyTo c.args.sides.now.target.root (λ at. ⊥)) (λ file. Contains (journal_text (done_of c.args.journal) ∷ []) file) (g.F.Folder.told c.args.folder.now) (g.F.Folder.told c.walk_one.new.folder) c.walk_one.ensures.told
+returns-in_err-target-clause-written g c = only_nowhere (BringsOnlyTo c.args.sides.now.target.root (λ at. ⊥)) (λ file. Contains (done_texts c.args.journal) file) (g.F.Folder.told c.args.folder.now) (g.F.Folder.told c.walk_one.new.folder) c.walk_one.ensures.told
 
 pub returns-in_err-test_same-clause-written : goal.returns-in_err-test_same-clause-written
-returns-in_err-test_same-clause-written g c = only_nowhere (BringsOnlyTo c.args.sides.now.target.root (λ at. ⊥)) (λ file. Contains (journal_text (done_of c.args.journal) ∷ []) file) (g.F.Folder.told c.args.folder.now) (g.F.Folder.told c.test_same.new.folder) (c.test_same.ensures.told ∙ c.walk_one.ensures.told)
+returns-in_err-test_same-clause-written g c = only_nowhere (BringsOnlyTo c.args.sides.now.target.root (λ at. ⊥)) (λ file. Contains (done_texts c.args.journal) file) (g.F.Folder.told c.args.folder.now) (g.F.Folder.told c.test_same.new.folder) (c.test_same.ensures.told ∙ c.walk_one.ensures.told)
 
 pub returns-in_err-say_done-clause-written : goal.returns-in_err-say_done-clause-written
-returns-in_err-say_done-clause-written g c = subst (λ t. WritesBeside c.args.sides.now.target.root (λ file. Contains (journal_text (done_of c.args.journal) ∷ []) file) t (g.F.Folder.told c.say_done.new.folder)) (c.test_same.ensures.told ∙ c.walk_one.ensures.told) (c.say_done.ensures.written c.args.sides.now.target.root c.requires.apart.target)
+returns-in_err-say_done-clause-written g c = subst (λ t. WritesBeside c.args.sides.now.target.root (λ file. Contains (done_texts c.args.journal) file) t (g.F.Folder.told c.say_done.new.folder)) (c.test_same.ensures.told ∙ c.walk_one.ensures.told) (c.say_done.ensures.written c.args.sides.now.target.root c.requires.apart.target)
 
 pub returns-clause-written : goal.returns-clause-written
-returns-clause-written g c = subst (λ t. WritesBeside c.args.sides.now.target.root (λ file. Contains (journal_text (done_of c.args.journal) ∷ []) file) t (g.F.Folder.told c.say_done.new.folder)) (c.test_same.ensures.told ∙ c.walk_one.ensures.told) (c.say_done.ensures.written c.args.sides.now.target.root c.requires.apart.target)
+returns-clause-written g c = subst (λ t. WritesBeside c.args.sides.now.target.root (λ file. Contains (done_texts c.args.journal) file) t (g.F.Folder.told c.say_done.new.folder)) (c.test_same.ensures.told ∙ c.walk_one.ensures.told) (c.say_done.ensures.written c.args.sides.now.target.root c.requires.apart.target)
 
 pub returns-in_err-target-clause-moving : goal.returns-in_err-target-clause-moving
 returns-in_err-target-clause-moving g c =
@@ -207,3 +208,18 @@ returns-in_err-target-clause-tested g c = fault_as IsOfTest c.from_residual.resu
 pub returns-in_err-say_done-clause-tested : goal.returns-in_err-say_done-clause-tested
 returns-in_err-say_done-clause-tested g c =
     fault_as IsOfTest c.from_residual-in_err-say_done.result c.from_residual-in_err-say_done.ensures.1 (stop_is_test c.in_err-say_done.field-0.0 (Unit {0}) c.in_err-say_done.ensures.moving)
+
+pub returns-clause-clears : goal.returns-clause-clears
+returns-clause-clears g c = subst (λ t. ClearsReady c.args.work.now t (g.F.Folder.told c.say_done.new.folder)) (c.in_ok-test_same.ensures.told ∙ c.in_ok-target.ensures.told) c.in_ok-say_done.ensures.clears
+
+pub returns-in_err-target-clause-journal : goal.returns-in_err-target-clause-journal
+returns-in_err-target-clause-journal g c = texts_same c.args.work.now c.args.journal (g.F.Folder.told c.args.folder.now) (g.F.Folder.told c.walk_one.new.folder) c.walk_one.ensures.told
+
+pub returns-in_err-test_same-clause-journal : goal.returns-in_err-test_same-clause-journal
+returns-in_err-test_same-clause-journal g c = texts_same c.args.work.now c.args.journal (g.F.Folder.told c.args.folder.now) (g.F.Folder.told c.test_same.new.folder) (c.test_same.ensures.told ∙ c.walk_one.ensures.told)
+
+pub returns-in_err-say_done-clause-journal : goal.returns-in_err-say_done-clause-journal
+returns-in_err-say_done-clause-journal g c = subst (λ t. KeepsTexts c.args.work.now c.args.journal t (g.F.Folder.told c.say_done.new.folder)) (c.test_same.ensures.told ∙ c.walk_one.ensures.told) c.say_done.ensures.journal
+
+pub returns-clause-journal : goal.returns-clause-journal
+returns-clause-journal g c = subst (λ t. KeepsTexts c.args.work.now c.args.journal t (g.F.Folder.told c.say_done.new.folder)) (c.test_same.ensures.told ∙ c.walk_one.ensures.told) c.say_done.ensures.journal

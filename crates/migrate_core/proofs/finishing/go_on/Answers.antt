@@ -9,15 +9,14 @@ use Rattle.migrate_core.proofs.Movings.{mapped_walk, moves_on, moves_to, moves_w
 use Rattle.migrate_core.proofs.WorkFolders.{beside_staged, journal_stays, placing_has, tidy_placed, work_folder_stays}
 use Rattle.migrate_core.specs.Leading.{Goes, progress_of}
 use Rattle.migrate_core.proofs.Endings.{if_ok_more}
-use Rattle.migrate_core.specs.Moved.{Moved, StaysTidyWork, lacking, done_of}
+use Rattle.migrate_core.specs.Moved.{Moved, StaysTidyWork, lacking}
 use Rattle.migrate_core.specs.Moving.{MovesOnly}
 use Rattle.migrate_core.specs.Copying.{CopiesAll, HasCopied}
 use Rattle.migrate_core.specs.Sides.{AllowsEach, IsMappedWalk, StandAll}
 use Rattle.vault_spec.specs.Vault.{format_of}
-use Rattle.migrate_core.specs.Written.{WritesAll, WritesBy, WritesFirst, lacked}
+use Rattle.migrate_core.specs.Written.{WritesAll, WritesBy, WritesFirst, done_texts, lacked}
 use Rattle.migrate_core.proofs.Writings.{by_texts, then_texts}
 use Rattle.migrate_core.proofs.WrittenTrees.{by_all}
-use Rattle.move_journal.specs.Journal.{journal_text}
 use Rattle.move_journal.specs.Reading.{StandsIn}
 use Rattle.migrate_core.proofs.Stopping.{later_seen}
 use Rattle.migrate_core.specs.Causes.{StopsSeen}
@@ -28,6 +27,9 @@ use Rattle.migrate_core.proofs.Drawing.{drew_err, drew_failed, drew_ok, drew_tes
 use Rattle.migrate_core.proofs.finishing.go_on.Goals as goal
 use Rattle.migration_spec.proofs.Tellings.{seen_then}
 use Rattle.migration_sides.proofs.Chains.{fault_as, refused_as}
+use Rattle.migrate_core.proofs.Lastings.{cleared_later, keeps_then, on_ok_more, texts_by_region}
+use Rattle.migrate_core.specs.Lasting.{Clears, ClearsReady, KeepsTexts}
+use Rattle.migrate_core.specs.Moving.{OnlyBrings}
 
 pub place_missing-requires-clause-walked : goal.place_missing-requires-clause-walked
 place_missing-requires-clause-walked g c =
@@ -119,7 +121,7 @@ returns-in_err-placed-clause-written g c ordered =
     let to = c.args.sides.now.target in
     let there = c.args.there.now in
     let items = c.args.items.now.mapped.items in
-    let texts = journal_text (done_of c.args.journal) ∷ [] in
+    let texts = done_texts c.args.journal in
     let told = g.F.Folder.told c.args.folder.now in
     let here = g.F.Folder.told c.place_missing.new.folder in
     let left = g.R.Randoms.left c.args.random.now in
@@ -135,7 +137,7 @@ returns-clause-written g c ordered =
     let to = c.args.sides.now.target in
     let there = c.args.there.now in
     let items = c.args.items.now.mapped.items in
-    let texts = journal_text (done_of c.args.journal) ∷ [] in
+    let texts = done_texts c.args.journal in
     let told = g.F.Folder.told c.args.folder.now in
     let here = g.F.Folder.told c.place_missing.new.folder in
     let left = g.R.Randoms.left c.args.random.now in
@@ -219,3 +221,31 @@ returns-clause-drew g c =
     let left = g.R.Randoms.left c.args.random.now in
     let left1 = g.R.Randoms.left c.place_missing.new.random in
     drew_tested c.finish.result left left1 c.finish.ensures.tested (drew_ok c.in_ok-placed.placed left left1 c.in_ok-placed.ensures.drew)
+
+pub returns-in_err-placed-clause-journal : goal.returns-in_err-placed-clause-journal
+returns-in_err-placed-clause-journal g c =
+    let work = c.args.work.now in
+    let root = c.args.sides.now.target.root in
+    texts_by_region work c.args.journal (is_apart work root) (λ s0 s e. OnlyBrings work root s e.call) (g.F.Folder.told c.args.folder.now) (g.F.Folder.told c.place_missing.new.folder) (placing_has work root c.requires.apart.target).journal c.place_missing.ensures.moves
+
+pub returns-clause-journal : goal.returns-clause-journal
+returns-clause-journal g c =
+    let work = c.args.work.now in
+    let root = c.args.sides.now.target.root in
+    let told = g.F.Folder.told c.args.folder.now in
+    let here = g.F.Folder.told c.place_missing.new.folder in
+    let after = g.F.Folder.told c.finish.new.folder in
+    keeps_then work c.args.journal told here after (g.met.F.Folder.sound c.place_missing.new.folder)
+    (texts_by_region work c.args.journal (is_apart work root) (λ s0 s e. OnlyBrings work root s e.call) told here (placing_has work root c.requires.apart.target).journal c.place_missing.ensures.moves)
+    (subst (λ w. KeepsTexts w c.args.journal here after) c.at.ensures c.finish.ensures.journal)
+
+pub returns-clause-clears : goal.returns-clause-clears
+returns-clause-clears g c =
+    let work = c.args.work.now in
+    let root = c.args.sides.now.target.root in
+    let told = g.F.Folder.told c.args.folder.now in
+    let here = g.F.Folder.told c.place_missing.new.folder in
+    let after = g.F.Folder.told c.finish.new.folder in
+    on_ok_more (ClearsReady c.at.result.now here after) (Clears work told after) c.finish.result
+    (λ clears. cleared_later work (is_apart work root) told here after (placing_has work root c.requires.apart.target).new_journal (g.met.F.Folder.sound c.args.folder.now) (moves_to work (is_apart work root) root told here c.place_missing.ensures.moves)
+    c.in_ok-placed.ensures.ready (subst (λ w. ClearsReady w here after) c.at.ensures clears)) c.finish.ensures.clears

@@ -15,13 +15,12 @@ use Rattle.migrate_core.proofs.Restaged.{rest_goes, stage_alone, stage_apart, st
 use Rattle.migrate_core.proofs.WorkFolders.{staging_has, work_folder_stays, journal_stays}
 use Rattle.folder_spec.specs.Seen.{IfSeen}
 use Rattle.migrate_core.proofs.Endings.{if_ok_more}
-use Rattle.migrate_core.specs.Moved.{Moved, lacking, done_of}
+use Rattle.migrate_core.specs.Moved.{Moved, lacking}
 use Rattle.migrate_core.specs.Causes.{IsOfMoving, Moves, Unless, StopsAt, StopsSeen}
 use Rattle.migrate_core.specs.Copying.{HasCopied, BothHaveOwnFolders, CopiesAll, StayGood}
 use Rattle.migrate_core.specs.Faults.{of_work}
 use Rattle.migrate_core.proofs.Writings.{changing_writes, nothing_yet, only_more, texts_then}
-use Rattle.migrate_core.specs.Written.{BringsOnlyTo, WritesBy, lacked, WritesBeside}
-use Rattle.move_journal.specs.Journal.{journal_text}
+use Rattle.migrate_core.specs.Written.{BringsOnlyTo, WritesBeside, WritesBy, done_texts, lacked}
 use Rattle.move_journal.specs.Reading.{StandsIn}
 use Rattle.migrate_core.proofs.Blaming.{blamed_later}
 use Rattle.migrate_core.proofs.Limits.{ends_more, ends_uncompared}
@@ -36,6 +35,10 @@ use Rattle.migration_sides.proofs.Told.{work_refused}
 use Rattle.migrate_core.proofs.Tested.{work_tested}
 use Rattle.migrate_core.proofs.Readied.{lacked_kept, readied_good, readied_stops, IsReadied}
 use Rattle.folder_spec.specs.Event.{FromTo}
+use Rattle.migrate_core.proofs.Lastings.{clears_later, keeps_then, on_ok_more, texts_by_region}
+use Rattle.migrate_core.proofs.WorkFolders.{changing_moves}
+use Rattle.migrate_core.specs.Lasting.{Clears, KeepsTexts}
+use Rattle.migrate_core.specs.Moving.{OnlyBrings}
 
 -- once the stage is ready anew, or that has failed
 module _ (g : Over) (c : After-again g) where
@@ -46,6 +49,15 @@ module _ (g : Over) (c : After-again g) where
 
   rest_stays : FromTo (λ a b. IsAsBefore (apart_from (stage_path c.args.work.now)) a.state b.state) (g.F.Folder.told c.args.folder.now) (g.F.Folder.told c.again.new.folder)
   rest_stays = stage_stays c.args.work.now c.args.sides.now.target.root (g.F.Folder.told c.args.folder.now) (g.F.Folder.told c.again.new.folder) c.requires.apart.target c.again.ensures.restages.moments
+
+  again_keeps : KeepsTexts c.args.work.now c.args.journal (g.F.Folder.told c.args.folder.now) (g.F.Folder.told c.again.new.folder)
+  again_keeps =
+      let work = c.args.work.now in
+      let root = c.args.sides.now.target.root in
+      let t0 = g.F.Folder.told c.args.folder.now in
+      let t1 = g.F.Folder.told c.again.new.folder in
+      texts_by_region work c.args.journal (apart_from (stage_path work)) (λ s0 s e. OnlyBrings work root s e.call) t0 t1 (staging_has work).journal
+      (changing_moves work (stage_path work) (IsStage work) (IsBelowStage work) root t0 t1 (stage_apart work root c.requires.apart.target) c.again.ensures.restages.moments)
 
   no_file : WritesBeside c.args.sides.now.target.root (λ file. ⊥) (g.F.Folder.told c.args.folder.now) (g.F.Folder.told c.again.new.folder)
   no_file =
@@ -175,7 +187,7 @@ returns-clause-written g c v seen =
     let to = c.args.sides.now.target in
     let mapped = c.args.items.now.mapped.items in
     let there = c.args.target.now.items in
-    let texts = journal_text (done_of c.args.journal) ∷ [] in
+    let texts = done_texts c.args.journal in
     let told = g.F.Folder.told c.args.folder.now in
     let ready = g.F.Folder.told c.again.new.folder in
     let after = g.F.Folder.told c.go_on.new.folder in
@@ -223,3 +235,24 @@ returns-clause-unready g c = inr c.in_ok-again.ensures.restages.answer
 
 pub returns-in_err-again-clause-drew : goal.returns-in_err-again-clause-drew
 returns-in_err-again-clause-drew g c = drew_refused c.draws_compose.ensures.none (g.R.Randoms.left c.args.random.now) c.from_residual.result _ c.from_residual.ensures.1 (work_tested c.in_err-again.field-0.0).1
+
+pub returns-in_err-again-clause-journal : goal.returns-in_err-again-clause-journal
+returns-in_err-again-clause-journal g c = again_keeps g (goal.at.returns-in_err-again-clause-journal g c).After-again
+
+pub returns-clause-journal : goal.returns-clause-journal
+returns-clause-journal g c =
+    let work = c.args.work.now in
+    let told = g.F.Folder.told c.args.folder.now in
+    let ready = g.F.Folder.told c.again.new.folder in
+    let after = g.F.Folder.told c.go_on.new.folder in
+    keeps_then work c.args.journal told ready after (g.met.F.Folder.sound c.again.new.folder) (again_keeps g (goal.at.returns-clause-journal g c).After-again) (subst (λ w. KeepsTexts w c.args.journal ready after) c.in_ok-again.ensures.path c.go_on.ensures.journal)
+
+pub returns-clause-clears : goal.returns-clause-clears
+returns-clause-clears g c =
+    let work = c.args.work.now in
+    let told = g.F.Folder.told c.args.folder.now in
+    let ready = g.F.Folder.told c.again.new.folder in
+    let after = g.F.Folder.told c.go_on.new.folder in
+    on_ok_more (Clears c.in_ok-again.again ready after) (Clears work told after) c.go_on.result
+    (λ clears. clears_later work (apart_from (stage_path work)) told ready after (staging_has work).new_journal (g.met.F.Folder.sound c.args.folder.now) (rest_stays g (goal.at.returns-clause-clears g c).After-again)
+    (subst (λ w. Clears w ready after) c.in_ok-again.ensures.path clears)) c.go_on.ensures.clears

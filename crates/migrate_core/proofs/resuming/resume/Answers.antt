@@ -21,6 +21,8 @@ use Rattle.migration_sides.proofs.Chains.{fault_as, refused_as}
 use Rattle.migration_sides.proofs.Told.{folder_unless}
 use Rattle.migrate_core.proofs.Tested.{folder_tested}
 use Rattle.migration_sides.proofs.Unchanged.{tested_settled, unchanged_settled}
+use Rattle.migrate_core.proofs.Lastings.{clears_settled, journal_fell, journal_kept, on_ok_more, settle_ends}
+use Rattle.migrate_core.specs.Lasting.{Clears, EndsEach, EndsEachSettled}
 
 pub returns-in_err-settle-clause-guard : goal.returns-in_err-settle-clause-guard
 returns-in_err-settle-clause-guard g c = λ migration resumed opened.
@@ -121,3 +123,36 @@ returns-clause-too_long g c v seen =
 
 pub returns-in_err-settle-clause-drew : goal.returns-in_err-settle-clause-drew
 returns-in_err-settle-clause-drew g c = drew_refused c.draws_compose.ensures.none (g.R.Randoms.left c.args.random.now) c.from_residual.result _ c.from_residual.ensures.1 (folder_tested c.in_err-settle.field-0.0).1
+
+pub returns-clause-clears : goal.returns-clause-clears
+returns-clause-clears g c =
+    let t0 = g.F.Folder.told c.args.folder.now in
+    let t1 = g.F.Folder.told c.settle.new.self in
+    let t2 = g.F.Folder.told c.resume_settled.new.folder in
+    on_ok_more (Clears c.args.work.now t1 t2) (Clears c.args.work.now t0 t2) c.resume_settled.result (clears_settled c.args.work.now t0 t1 t2 (settle_seen t0 t1 c.in_ok-settle.field-0 c.in_ok-settle.ensures.changes)) c.resume_settled.ensures.clears
+
+pub returns-in_err-settle-clause-journal : goal.returns-in_err-settle-clause-journal
+returns-in_err-settle-clause-journal g c v journal seen is stands =
+    journal_fell c.args.work.now journal (g.F.Folder.told c.args.folder.now) (g.F.Folder.told c.settle.new.self) c.settle.result v seen stands c.settle.ensures.changes
+
+pub returns-clause-journal : goal.returns-clause-journal
+returns-clause-journal g c v journal seen is stands =
+    let t0 = g.F.Folder.told c.args.folder.now in
+    let t1 = g.F.Folder.told c.settle.new.self in
+    let t2 = g.F.Folder.told c.resume_settled.new.folder in
+    journal_kept c.args.work.now journal t0 t1 t2 c.in_ok-settle.field-0 v (g.met.F.Folder.sound c.settle.new.self) seen stands c.in_ok-settle.ensures.changes
+    (c.resume_settled.ensures.journal v journal (settle_seen t0 t1 c.in_ok-settle.field-0 c.in_ok-settle.ensures.changes v seen) is stands)
+
+pub returns-clause-finishes : goal.returns-clause-finishes
+returns-clause-finishes g c =
+    let law = c.settling_and_entering_keep_migrations_guarded.ensures in
+    let work = c.args.work.now in
+    let pass = c.args.source_pass.now in
+    let pass' = c.args.target_pass.now in
+    let t0 = g.F.Folder.told c.args.folder.now in
+    let t1 = g.F.Folder.told c.settle.new.self in
+    let t2 = g.F.Folder.told c.resume_settled.new.folder in
+    on_ok_more (EndsEachSettled work pass pass' t1 t2) (EndsEach work pass pass' t0 t2) c.resume_settled.result
+    (λ ends migration resumed opened.
+    settle_ends law.settles law.alone migration t0 t1 t2 c.in_ok-settle.field-0 (g.met.F.Folder.sound c.args.folder.now) (g.met.F.Folder.sound c.settle.new.self) c.in_ok-settle.ensures.changes
+    (ends migration resumed (λ v seen. opened v (settle_seen_back t0 t1 (Ok c.in_ok-settle.field-0) c.in_ok-settle.ensures.changes v seen)))) c.resume_settled.ensures.finishes

@@ -20,7 +20,7 @@ use Rattle.move_journal.proofs.Standing.{read_stands}
 use Rattle.migrate_core.specs.Faults.{of_journal, of_step, of_work}
 use Rattle.migrate_core.specs.declared.placing.Done.{Done}
 use Rattle.migrate_core.proofs.WrittenTrees.{nothing_written, told_of}
-use Rattle.migrate_core.specs.Written.{MayWriteTree}
+use Rattle.migrate_core.specs.Written.{MayWriteTreeBy, done_texts}
 use Rattle.migrate_core.proofs.Limits.{limit_more, none_compared}
 use Rattle.migrate_core.specs.Limits.{PassesAsTold, PassesInTree}
 use Rattle.migrate_core.proofs.Drawing.{drew_refused}
@@ -30,6 +30,8 @@ use Rattle.migrate_core.specs.declared.fault.MoveFault.TheVariants.{Failed, NoMe
 use Rattle.migrate_core.proofs.Tested.{journal_tested, step_tested, work_tested}
 use Rattle.folder_spec.specs.Path.{Path}
 use Rattle.folder_spec.specs.View.{View}
+use Rattle.migrate_core.proofs.Lastings.{on_ok_more, texts_same}
+use Rattle.migrate_core.specs.Lasting.{Clears, EndsEachSettled, KeepsTexts}
 
 -- behind the journal: the folders don't overlap, and nothing foreign stands in the work folder
 module _ (work : Path) (pass pass' : List ℕ) (v : View) where
@@ -173,7 +175,7 @@ returns-clause-written g c v seen =
     let pass' = c.args.target_pass.now in
     let same = c.look_again.ensures.told ∙ c.read.ensures.told in
     told_of c.resume_told.result c.args.work.now pass pass' left left2 told after v read c.in_ok-journal.ensures.journal (read_stands c.args.work.now v read (c.in_ok-journal.ensures.answer v seen))
-    (subst (λ t. MayWriteTree c.resume_told.result read.names read.source read.target c.args.work.now pass pass' left left2 t after) same (c.resume_told.ensures.written v (subst (λ t. IsSeen t v) (sym same) seen)))
+    (subst (λ t. MayWriteTreeBy (λ items. done_texts read) c.resume_told.result read.names read.source read.target c.args.work.now pass pass' left left2 t after) same (c.resume_told.ensures.written v (subst (λ t. IsSeen t v) (sym same) seen)))
 
 pub returns-in_err-journal-clause-tested : goal.returns-in_err-journal-clause-tested
 returns-in_err-journal-clause-tested g c = inl c.read.ensures.told
@@ -244,3 +246,36 @@ returns-in_err-test_apart-clause-drew g c = drew_refused c.draws_compose.ensures
 
 pub returns-in_err-look_again-clause-drew : goal.returns-in_err-look_again-clause-drew
 returns-in_err-look_again-clause-drew g c = drew_refused c.draws_compose.ensures.none (g.R.Randoms.left c.args.random.now) c.from_residual-in_err-look_again.result _ c.from_residual-in_err-look_again.ensures.1 (work_tested c.in_err-look_again.field-0.0).1
+
+pub returns-clause-clears : goal.returns-clause-clears
+returns-clause-clears g c =
+    let work = c.args.work.now in
+    let after = g.F.Folder.told c.resume_told.new.folder in
+    on_ok_more (Clears work (g.F.Folder.told c.look_again.new.folder) after) (Clears work (g.F.Folder.told c.args.folder.now) after) c.resume_told.result
+    (subst (λ t. Clears work t after) (c.look_again.ensures.told ∙ c.read.ensures.told)) c.resume_told.ensures.clears
+
+pub returns-clause-finishes : goal.returns-clause-finishes
+returns-clause-finishes g c =
+    let work = c.args.work.now in
+    let pass = c.args.source_pass.now in
+    let pass' = c.args.target_pass.now in
+    let after = g.F.Folder.told c.resume_told.new.folder in
+    on_ok_more (EndsEachSettled work pass pass' (g.F.Folder.told c.look_again.new.folder) after) (EndsEachSettled work pass pass' (g.F.Folder.told c.args.folder.now) after) c.resume_told.result
+    (subst (λ t. EndsEachSettled work pass pass' t after) (c.look_again.ensures.told ∙ c.read.ensures.told)) c.resume_told.ensures.finishes
+
+pub returns-in_err-journal-clause-journal : goal.returns-in_err-journal-clause-journal
+returns-in_err-journal-clause-journal g c v journal seen is stands = texts_same c.args.work.now journal (g.F.Folder.told c.args.folder.now) (g.F.Folder.told c.read.new.folder) c.read.ensures.told
+
+pub returns-in_err-test_apart-clause-journal : goal.returns-in_err-test_apart-clause-journal
+returns-in_err-test_apart-clause-journal g c v journal seen is stands = texts_same c.args.work.now journal (g.F.Folder.told c.args.folder.now) (g.F.Folder.told c.read.new.folder) c.read.ensures.told
+
+pub returns-in_err-look_again-clause-journal : goal.returns-in_err-look_again-clause-journal
+returns-in_err-look_again-clause-journal g c v journal seen is stands = texts_same c.args.work.now journal (g.F.Folder.told c.args.folder.now) (g.F.Folder.told c.look_again.new.folder) (c.look_again.ensures.told ∙ c.read.ensures.told)
+
+pub returns-clause-journal : goal.returns-clause-journal
+returns-clause-journal g c = λ v journal seen is stands.
+    let after = g.F.Folder.told c.resume_told.new.folder in
+    let read = c.in_ok-journal.journal in
+    subst (λ (j : Journal). KeepsTexts c.args.work.now j (g.F.Folder.told c.args.folder.now) after)
+    (c.journals_are_read_back.ensures.stands c.args.work.now v read journal c.in_ok-journal.ensures.journal is (read_stands c.args.work.now v read (c.in_ok-journal.ensures.answer v seen)) stands)
+    (subst (λ t. KeepsTexts c.args.work.now read t after) (c.look_again.ensures.told ∙ c.read.ensures.told) c.resume_told.ensures.journal)

@@ -19,7 +19,7 @@ use Rattle.migrate_core.specs.Causes.{Answer, IsOfPlacing, PassesTold, ResumesTo
 use Rattle.migrate_core.specs.Faults.{of_step}
 use Rattle.migrate_core.specs.declared.placing.Done.{Done}
 use Rattle.migrate_core.proofs.WrittenTrees.{nothing_written, tree_of}
-use Rattle.migrate_core.specs.Written.{MayWrite}
+use Rattle.migrate_core.specs.Written.{MayWriteBy, done_texts}
 use Rattle.migrate_core.proofs.Limits.{limit_in_tree, none_compared}
 use Rattle.migrate_core.specs.Copying.{StayGood}
 use Rattle.migrate_core.specs.Limits.{EndsBy}
@@ -28,6 +28,10 @@ use Rattle.migrate_core.proofs.resuming.resume_told.Goals as goal
 use Rattle.migration_sides.proofs.Chains.{fault_as, own_passes, own_refused, passed_is, refused_as}
 use Rattle.migrate_core.specs.declared.fault.MoveFault.TheVariants.{Failed, NoMemory}
 use Rattle.migrate_core.proofs.Tested.{step_tested}
+use Rattle.migrate_core.proofs.Lastings.{leads_of, on_ok_by, on_ok_more, settled_ends, texts_same}
+use Rattle.migrate_core.specs.Lasting.{Clears, EndsEachSettled, KeepsTexts}
+use Rattle.migrate_core.specs.Leading.{Leads}
+use Rattle.migration_spec.specs.Alone.{Finished}
 
 pub returns-in_err-test_source-clause-guard : goal.returns-in_err-test_source-clause-guard
 returns-in_err-test_source-clause-guard g c migration resumed opened = still_settled migration _ _ c.test_source.ensures.told
@@ -159,9 +163,9 @@ returns-clause-written g c v seen =
     let sides = c.in_ok-sides.sides in
     let loads = c.in_ok-sides.ensures in
     let same = c.load_both.ensures.told ∙ c.test_source.ensures.told in
-    tree_of c.resume_with.result c.args.journal.names c.args.journal.source c.args.journal.target c.args.work.now c.args.source_pass.now c.args.target_pass.now sides.source sides.target left left2 told after loads.source loads.target
+    tree_of (λ items. done_texts c.args.journal) c.resume_with.result c.args.journal.names c.args.journal.source c.args.journal.target c.args.work.now c.args.source_pass.now c.args.target_pass.now sides.source sides.target left left2 told after loads.source loads.target
     (λ w is. loads.opens_source w (subst (λ t. IsSeen t w) (sym c.test_source.ensures.told) is)) (λ w is. loads.opens_target w (subst (λ t. IsSeen t w) (sym c.test_source.ensures.told) is))
-    (subst (λ t. MayWrite c.resume_with.result c.args.journal.names sides.source sides.target c.args.work.now left left2 t after) same (c.resume_with.ensures.written v (subst (λ t. IsSeen t v) (sym same) seen)))
+    (subst (λ t. MayWriteBy (λ items. done_texts c.args.journal) c.resume_with.result c.args.journal.names sides.source sides.target c.args.work.now left left2 t after) same (c.resume_with.ensures.written v (subst (λ t. IsSeen t v) (sym same) seen)))
 
 pub returns-in_err-test_source-clause-tested : goal.returns-in_err-test_source-clause-tested
 returns-in_err-test_source-clause-tested g c = inl c.test_source.ensures.told
@@ -220,3 +224,43 @@ returns-in_err-test_source-clause-drew g c = drew_refused c.draws_compose.ensure
 
 pub returns-in_err-sides-clause-drew : goal.returns-in_err-sides-clause-drew
 returns-in_err-sides-clause-drew g c = drew_refused c.draws_compose.ensures.none (g.R.Randoms.left c.args.random.now) c.from_residual-in_err-sides.result _ c.from_residual-in_err-sides.ensures.1 (step_tested c.in_err-sides.field-0.0).1
+
+pub returns-clause-clears : goal.returns-clause-clears
+returns-clause-clears g c =
+    let work = c.args.work.now in
+    let after = g.F.Folder.told c.resume_with.new.folder in
+    on_ok_more (Clears work (g.F.Folder.told c.load_both.new.folder) after) (Clears work (g.F.Folder.told c.args.folder.now) after) c.resume_with.result
+    (subst (λ t. Clears work t after) (c.load_both.ensures.told ∙ c.test_source.ensures.told)) c.resume_with.ensures.clears
+
+pub returns-in_err-test_source-clause-journal : goal.returns-in_err-test_source-clause-journal
+returns-in_err-test_source-clause-journal g c = texts_same c.args.work.now c.args.journal (g.F.Folder.told c.args.folder.now) (g.F.Folder.told c.test_source.new.folder) c.test_source.ensures.told
+
+pub returns-in_err-sides-clause-journal : goal.returns-in_err-sides-clause-journal
+returns-in_err-sides-clause-journal g c = texts_same c.args.work.now c.args.journal (g.F.Folder.told c.args.folder.now) (g.F.Folder.told c.load_both.new.folder) (c.load_both.ensures.told ∙ c.test_source.ensures.told)
+
+pub returns-clause-journal : goal.returns-clause-journal
+returns-clause-journal g c = subst (λ t. KeepsTexts c.args.work.now c.args.journal t (g.F.Folder.told c.resume_with.new.folder)) (c.load_both.ensures.told ∙ c.test_source.ensures.told) c.resume_with.ensures.journal
+
+pub returns-clause-finishes : goal.returns-clause-finishes
+returns-clause-finishes g c =
+    let t0 = g.F.Folder.told c.args.folder.now in
+    let t2 = g.F.Folder.told c.load_both.new.folder in
+    let t3 = g.F.Folder.told c.resume_with.new.folder in
+    let same : t2 ≡ t0 = c.load_both.ensures.told ∙ c.test_source.ensures.told in
+    let sides = c.in_ok-sides.sides in
+    let loads = c.in_ok-sides.ensures in
+    let journal = c.args.journal in
+    let at = progress_of journal.phase in
+    on_ok_by (EndsEachSettled c.args.work.now c.args.source_pass.now c.args.target_pass.now t0 t3) c.resume_with.result
+    (λ done is_done migration resumed opened.
+    settled_ends c.args.work.now (apart_from_both c.args.work.now sides.target.root) sides.target.root migration at t0 t3
+    (subst (λ t. MovesOnly c.args.work.now sides.target.root t t3) same c.resume_with.ensures.moves)
+    (λ a is settled.
+    let v = seen a.state in
+    let shown = subst (λ t. IsSeen t v) (sym c.test_source.ensures.told) (seen_of t0 a is) in
+    let again = resumes c.roots_have_one_answer.ensures c.guarded_migrations_are_seen.ensures.case c.journals_are_read_back.ensures.stands migration a.state sides.source sides.target c.args.work.now journal
+    c.args.source_pass.now c.args.target_pass.now resumed (opened v (seen_of t0 a is)) c.requires.journal settled (c.requires.used v (seen_of t0 a is)) (record { stands = loads.source; loads = loads.opens_source v shown })
+    (record { stands = loads.target; loads = loads.opens_target v shown }) in (
+      again.found.alone,
+      subst (λ t. Leads migration at Finished t t3) same (leads_of migration at Finished t2 t3 c.resume_with.result done is_done (c.resume_with.ensures.guard migration again.found.sides again.tells)),
+    )))

@@ -1,6 +1,6 @@
 use Rattle.std.proofs.Common.{◌≡◌, ◌∙◌, sym, subst, arith, Err, List, Ok, [], inl, inr, refl, ◌∷◌}
 use Rattle.migrate_core.proofs.Endings.{if_ok_more, placed_of}
-use Rattle.migrate_core.specs.Moved.{lacking, done_of}
+use Rattle.migrate_core.specs.Moved.{lacking}
 use Rattle.folder_spec.specs.Seen.{IfSeen, IsSeen}
 use Rattle.migration_spec.specs.Alone.{Finished}
 use Rattle.migrate_core.specs.Leading.{Goes, progress_of}
@@ -17,10 +17,8 @@ use Rattle.migrate_core.specs.Faults.{of_step}
 use Rattle.work_folder.specs.Entering.{Empties}
 use Rattle.vault_spec.specs.Plan.{Planned}
 use Rattle.migrate_core.specs.declared.placing.Done.{Done}
-use Rattle.migrate_core.proofs.Writings.{by_texts}
-use Rattle.migrate_core.proofs.WrittenTrees.{done_text, nothing_written}
-use Rattle.migrate_core.specs.Written.{WritesBeside, WritesBy, journal_texts, lacked}
-use Rattle.move_journal.specs.Journal.{journal_text}
+use Rattle.migrate_core.proofs.WrittenTrees.{nothing_written}
+use Rattle.migrate_core.specs.Written.{WritesBeside, WritesBy, done_texts, lacked}
 use Rattle.migrate_core.proofs.Started.{matched_held, may_begin}
 use Rattle.migrate_core.specs.Copying.{MayBegin}
 use Rattle.migrate_core.proofs.Limits.{ends_uncompared}
@@ -33,6 +31,8 @@ use Rattle.migration_sides.proofs.Chains.{fault_as, passed_is, refused_as}
 use Rattle.migration_sides.specs.Tests.{all_pass}
 use Rattle.migrate_core.specs.declared.fault.MoveFault.TheVariants.{Failed, NoMemory}
 use Rattle.migrate_core.proofs.Tested.{moves_places, step_tested}
+use Rattle.migrate_core.proofs.Lastings.{on_ok_more, texts_same}
+use Rattle.migrate_core.specs.Lasting.{Clears, KeepsTexts}
 
 pub returns-in_err-plans-clause-guard : goal.returns-in_err-plans-clause-guard
 returns-in_err-plans-clause-guard g c migration sides tells = refused_nowhere _ migration (progress_of c.args.journal.phase) Finished _ _ c.from_residual.result c.from_residual.ensures.1 c.walk_both.ensures.told
@@ -147,8 +147,6 @@ returns-clause-written g c v seen =
     let after = g.F.Folder.told c.place_rest.new.folder in
     let left2 = g.R.Randoms.left c.place_rest.new.random in
     let same = c.test_plans.ensures.told ∙ c.walk_both.ensures.told in
-    let told_items = c.in_ok-mapped.ensures.named in
-    let text = done_text journal from.root to.root items c.requires.source_named c.requires.target_named told_items in
     let mapped = c.in_ok-mapped.mapped.items in
     inr (record {
       items = items;
@@ -161,9 +159,7 @@ returns-clause-written g c v seen =
         | inl beside ↦ inl (subst (λ t. WritesBeside to.root (λ file. ⊥) t after) same beside)
         | inr empties ↦ inr (λ w is. empties w (subst (λ t. IsSeen t w) (sym same) is))
       ];
-      writes = by_texts from to (lacked there mapped) (journal_text (done_of journal) ∷ []) (journal_texts journal.names from.root to.root items) left left2 told after text c.place_rest.result
-          (subst (λ t. WritesBy c.place_rest.result from to (lacked there mapped) (journal_text (done_of journal) ∷ []) left left2 t after) same
-          (c.place_rest.ensures.written v (subst (λ t. IsSeen t v) (sym same) seen)));
+      writes = subst (λ t. WritesBy c.place_rest.result from to (lacked there mapped) (done_texts journal) left left2 t after) same (c.place_rest.ensures.written v (subst (λ t. IsSeen t v) (sym same) seen));
     })
 
 pub returns-in_err-plans-clause-tested : goal.returns-in_err-plans-clause-tested
@@ -231,3 +227,19 @@ returns-in_err-plans-clause-drew g c = drew_refused c.draws_compose.ensures.none
 
 pub returns-in_err-mapped-clause-drew : goal.returns-in_err-mapped-clause-drew
 returns-in_err-mapped-clause-drew g c = drew_refused c.draws_compose.ensures.none (g.R.Randoms.left c.args.random.now) c.from_residual-in_err-mapped.result _ c.from_residual-in_err-mapped.ensures.1 c.in_err-mapped.ensures.tested
+
+pub returns-clause-clears : goal.returns-clause-clears
+returns-clause-clears g c =
+    let work = c.args.work.now in
+    let after = g.F.Folder.told c.place_rest.new.folder in
+    on_ok_more (Clears work (g.F.Folder.told c.test_plans.new.folder) after) (Clears work (g.F.Folder.told c.args.folder.now) after) c.place_rest.result
+    (subst (λ t. Clears work t after) (c.test_plans.ensures.told ∙ c.walk_both.ensures.told)) c.place_rest.ensures.clears
+
+pub returns-in_err-plans-clause-journal : goal.returns-in_err-plans-clause-journal
+returns-in_err-plans-clause-journal g c = texts_same c.args.work.now c.args.journal (g.F.Folder.told c.args.folder.now) (g.F.Folder.told c.walk_both.new.folder) c.walk_both.ensures.told
+
+pub returns-in_err-mapped-clause-journal : goal.returns-in_err-mapped-clause-journal
+returns-in_err-mapped-clause-journal g c = texts_same c.args.work.now c.args.journal (g.F.Folder.told c.args.folder.now) (g.F.Folder.told c.test_plans.new.folder) (c.test_plans.ensures.told ∙ c.walk_both.ensures.told)
+
+pub returns-clause-journal : goal.returns-clause-journal
+returns-clause-journal g c = subst (λ t. KeepsTexts c.args.work.now c.args.journal t (g.F.Folder.told c.place_rest.new.folder)) (c.test_plans.ensures.told ∙ c.walk_both.ensures.told) c.place_rest.ensures.journal

@@ -1,0 +1,73 @@
+-- How it lasts that a migration is done; and what stands in the work folder then.
+use Rattle.std.specs.Prelude.{◌≡◌, ◌⊎◌, ℕ, ◌<◌, ◌≤◌, List, Option}
+use Rattle.folder_spec.specs.Event.{Told, FromTo}
+use Rattle.folder_spec.specs.Moments.{Moments}
+use Rattle.folder_spec.specs.Path.{Path}
+use Rattle.folder_spec.specs.Replace.{IsNewFile}
+use Rattle.folder_spec.specs.Seen.{IfSeen, IsSeen}
+use Rattle.folder_spec.specs.State.{State, Table, IsTableOf}
+use Rattle.folder_spec.specs.View.{NoEntry, View}
+use Rattle.migration_spec.specs.Alone.{Finished, IsAlone}
+use Rattle.migration_spec.specs.Guard.{AreOpenedBy, Guarded, Migration}
+use Rattle.move_journal.specs.Journal.{IsJournal, journal_text}
+use Rattle.move_journal.specs.Reading.{StandsIn}
+use Rattle.move_journal.specs.declared.journal.Journal.{Journal}
+use Rattle.move_journal.specs.declared.journal.Phase.TheVariants.{Building}
+use Rattle.work_folder.specs.Entering.{IsReady}
+use Rattle.work_folder.specs.Entries.{journal_path, new_journal_path}
+use Rattle.migrate_core.specs.Leading.{IsSettled}
+use Rattle.migrate_core.specs.Moved.{done_of}
+
+-- A migration that was guarded at first is finished: each name table shows both vaults with the same tree, the names mapped, and the
+-- journal that says so, and the files of all three are clean.
+abbrev pub Finishes : Migration → Option Told → Option Told → Type 0
+Finishes g = FromTo (λ a b. Guarded g a.state → IsAlone g Finished b.state)
+
+-- each migration through this work folder, of whose vaults these passphrases open those that are there
+abbrev pub EndsEach : Path → List ℕ → List ℕ → Option Told → Option Told → Type 0
+EndsEach work from_pass to_pass told told' = (g : Migration) → g.work ≡ work → IfSeen told (λ v. AreOpenedBy g from_pass to_pass v) → Finishes g told told'
+
+-- `stage` is a directory without entries, and `journal.new` is gone or as it was
+pub record ClearsWork (work : Path) (v w : View) : Type 0 where
+  pub ready : IsReady w work
+  pub new_journal : (w (new_journal_path work) ≡ NoEntry) ⊎ (w (new_journal_path work) ≡ v (new_journal_path work))
+
+abbrev pub Clears : Path → Option Told → Option Told → Type 0
+Clears work told told' = (v w : View) → IsSeen told v → IsSeen told' w → ClearsWork work v w
+
+-- ---- the journal
+
+-- Since s0 each name table has at `journal` what a table of s0 had there, or, where that isn't said yet, a new file that says that all is
+-- done. The files of then are as they were.
+pub record KeepsText (work : Path) (journal : Journal) (s0 s : State) : Type 0 where
+  pub tables : (t : Table) → IsTableOf s t
+      → ((u : Table) × IsTableOf s0 u × (t (journal_path work) ≡ u (journal_path work))) ⊎ ((journal.phase ≡ Building) × IsNewFile (journal_text (done_of journal)) s0 s (t (journal_path work)))
+  pub nodes : (n : ℕ) → n < s0.made → s.nodes n ≡ s0.nodes n
+  pub made : s0.made ≤ s.made
+
+-- at each moment
+abbrev pub KeepsTexts : Path → Journal → Option Told → Option Told → Type 0
+KeepsTexts work journal = Moments (KeepsText work journal) (λ s0 s e. Unit {0})
+
+-- A journal that stood stands at each moment, or what says that all is done stands in its place; and so a read finds it in the end.
+pub record KeepsJournal (work : Path) (journal : Journal) (told told' : Option Told) : Type 0 where
+  pub moments : KeepsTexts work journal told told'
+  pub stands : IfSeen told' (λ v. StandsIn work journal v ⊎ StandsIn work (done_of journal) v)
+
+abbrev pub KeepsEachJournal : Path → Option Told → Option Told → Type 0
+KeepsEachJournal work told told' = (v : View) (journal : Journal) → IsSeen told v → IsJournal journal → StandsIn work journal v → KeepsJournal work journal told told'
+
+-- ---- behind a settle (private contracts only)
+
+abbrev pub FinishesSettled : Migration → Option Told → Option Told → Type 0
+FinishesSettled g = FromTo (λ a b. IsSettled g a.state → IsAlone g Finished b.state)
+
+abbrev pub EndsEachSettled : Path → List ℕ → List ℕ → Option Told → Option Told → Type 0
+EndsEachSettled work from_pass to_pass told told' = (g : Migration) → g.work ≡ work → IfSeen told (λ v. AreOpenedBy g from_pass to_pass v) → FinishesSettled g told told'
+
+-- where the stage was ready
+abbrev pub ClearsReady : Path → Option Told → Option Told → Type 0
+ClearsReady work told told' = (v w : View) → IsSeen told v → IsSeen told' w → IsReady v work → ClearsWork work v w
+
+abbrev pub KeepsEachText : Path → Option Told → Option Told → Type 0
+KeepsEachText work told told' = (v : View) (journal : Journal) → IsSeen told v → IsJournal journal → StandsIn work journal v → KeepsTexts work journal told told'

@@ -5,16 +5,21 @@ use Rattle.std.proofs.lemmas.List.{append_cancel_left}
 use Rattle.command_answers.specs.declared.answer.Answer.{Answer}
 use Rattle.open_for_reading.specs.Places.{RefusesOverlap}
 use Rattle.open_for_reading.specs.World.{World}
-use Rattle.folder_spec.specs.Event.{Event, after}
+use Rattle.folder_spec.specs.Event.{Call, Done, Denied, Event, Fell, Outcome, Settle, Told, after, outcome_state}
 use Rattle.folder_spec.specs.Image.{Image, IsImage, state_of}
 use Rattle.folder_spec.specs.Moments as moments
-use Rattle.folder_spec.specs.Moments.{EachState, Went}
+use Rattle.folder_spec.specs.Moments.{EachEvent, EachState, Went}
 use Rattle.folder_spec.specs.Seen.{IsSeen, seen}
 use Rattle.folder_spec.specs.State.{State}
 use Rattle.folder_spec.specs.View.{View}
 use Rattle.folder_spec.proofs.Seen.{seen_of}
+use Rattle.folder_spec.proofs.Tellings.{from_to_more}
+use Rattle.migration_sides.specs.Unchanged.{ChangesNothing}
+use Rattle.migration_spec.proofs.Along.{nothing_each}
+use Rattle.migration_spec.proofs.Settling.{SettlesGuarded}
+use Rattle.migration_spec.specs.Alone.{StaysGuarded}
 use Rattle.migration_spec.specs.Guard.{Migration, Guarded, LosesNothing}
-use Rattle.migration_commands.proofs.Migrations.{AreSafe, keeps_same}
+use Rattle.migration_commands.proofs.Migrations.{AreSafe, keeps_all, keeps_same}
 use Rattle.migration_commands.specs.History.{Asks, Migrates, Resumes, Retires, Does, IsOf, Run, Follows, FollowEach, IsMoment, IsStateIn, IsStateOf}
 use Rattle.migration_commands.specs.Migrate.{IsAskedFor, MigratesApart, MigratesTree, Pair, first_overlap}
 use Rattle.migration_commands.specs.Moving.{KeepsAll}
@@ -46,12 +51,41 @@ migrate_keeps safe g moving answer before after v is asked does = by (first_over
 command_keeps : AreSafe → (g : Migration) (asks : Asks) (answer : Answer) (before after : World) (v : View) → IsSeen before.told v → IsOf g asks v → Does asks answer before after → KeepsAll g before.told after.told
 command_keeps safe g (Migrates moving) answer before after v is of does = migrate_keeps safe g moving answer before after v is of does
 command_keeps safe g (Resumes resuming) answer before after v is of does = does.resumes.keeps g v is of
-command_keeps safe g (Retires resuming) answer before after v is of does = does.retires.keeps g v is of
+command_keeps safe g (Retires resuming) answer before after v is of does = does.retires.keeps g of
 
-run_keeps : AreSafe → (g : Migration) (r : Run g) → KeepsAll g (Some r.entry) (Some r.end)
-run_keeps safe g r =
-    subst (λ t. KeepsAll g t (Some r.end)) r.tells_entry (subst (KeepsAll g r.before.told) r.tells_end
-    (command_keeps safe g r.asks r.answer r.before r.after (seen r.entry.state) (seen_of r.before.told r.entry r.tells_entry) r.of r.does))
+-- a run that only settles loses nothing
+settled_state : SettlesGuarded → (g : Migration) (s : State) (call : Call) (outcome : Outcome) → call ≡ Settle → Guarded g s → Guarded g (outcome_state s call outcome)
+settled_state settles g s call outcome is guarded = subst (λ (c : Call). Guarded g (outcome_state s c outcome)) (sym is) (by outcome)
+  where
+    by : (outcome : Outcome) → Guarded g (outcome_state s Settle outcome)
+    by Done = settles g s guarded
+    by (Fell added) = guarded
+    by Denied = guarded
+
+settled_states : SettlesGuarded → (g : Migration) (s : State) (events : List Event) → Guarded g s → EachEvent (λ s e. e.call ≡ Settle) s events → EachState (Guarded g) s events
+settled_states settles g s [] guarded each = guarded
+settled_states settles g s (e ∷ events) guarded each = (guarded, settled_states settles g (after s e) events (settled_state settles g s e.call e.outcome each.0 guarded) each.1)
+
+settled_keeps : AreSafe → SettlesGuarded → (g : Migration) (told told' : Option Told) → ChangesNothing told told' → KeepsAll g told told'
+settled_keeps safe settles g told told' still =
+    keeps_all safe g told told'
+    (from_to_more (λ a b. Went (λ s. Unit {0}) (λ s e. e.call ≡ Settle) a b) (λ a b. Guarded g a.state → StaysGuarded g a b) told told'
+    (λ a b is went guarded. record {
+      events = went.events;
+      log = went.log;
+      state = went.state;
+      states = settled_states settles g a.state went.events guarded went.each;
+      each = nothing_each a.state went.events;
+      allowed = went.allowed;
+    }) still)
+
+run_keeps : AreSafe → SettlesGuarded → (g : Migration) (r : Run g) → KeepsAll g (Some r.entry) (Some r.end)
+run_keeps safe settles g r = elim r.of [
+  | inl of ↦
+      subst (λ t. KeepsAll g t (Some r.end)) r.tells_entry (subst (KeepsAll g r.before.told) r.tells_end
+      (command_keeps safe g r.asks r.answer r.before r.after (seen r.entry.state) (seen_of r.before.told r.entry r.tells_entry) of r.does))
+  | inr still ↦ settled_keeps safe settles g (Some r.entry) (Some r.end) still
+]
 
 abbrev Loses : (g : Migration) → Run g → Type 0
 Loses g r = Went (LosesNothing g) (λ s e. Unit {0}) r.entry r.end
@@ -73,9 +107,9 @@ next_guarded images g r next went follows = elim follows [
   | inr left ↦ subst (Guarded g) (sym left.taken) (images g left.moment left.image (state_keeps g r left.moment went left.is).guarded left.left)
 ]
 
-pub each_safe : AreSafe → ImagesGuarded → (g : Migration) (r : Run g) (more : List (Run g)) (s : State) → Guarded g r.entry.state → FollowEach r more → IsStateIn r more s → LosesNothing g s
-each_safe safe images g r [] s guarded follow is = state_keeps g r s (run_keeps safe g r guarded) is
-each_safe safe images g r (next ∷ more) s guarded follow is = elim is [
-  | inl here ↦ state_keeps g r s (run_keeps safe g r guarded) here
-  | inr later ↦ each_safe safe images g next more s (next_guarded images g r next (run_keeps safe g r guarded) follow.0) follow.1 later
+pub each_safe : AreSafe → SettlesGuarded → ImagesGuarded → (g : Migration) (r : Run g) (more : List (Run g)) (s : State) → Guarded g r.entry.state → FollowEach r more → IsStateIn r more s → LosesNothing g s
+each_safe safe settles images g r [] s guarded follow is = state_keeps g r s (run_keeps safe settles g r guarded) is
+each_safe safe settles images g r (next ∷ more) s guarded follow is = elim is [
+  | inl here ↦ state_keeps g r s (run_keeps safe settles g r guarded) here
+  | inr later ↦ each_safe safe settles images g next more s (next_guarded images g r next (run_keeps safe settles g r guarded) follow.0) follow.1 later
 ]

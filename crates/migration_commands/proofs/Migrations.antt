@@ -1,5 +1,5 @@
 -- Migrations that are led on: nothing is lost at any moment, and what was done where one wasn't begun.
-use Rattle.std.proofs.Common.{◌≡◌, ℕ, Bool, true, false, List, Option, Some, None, Result, Ok, Err, IsErrAnd, inl, inr, refl, sym, ap, ◌∙◌, subst, IsTrue, ◌⊎◌, []}
+use Rattle.std.proofs.Common.{◌≡◌, ℕ, Bool, true, false, List, Option, Some, None, Result, Ok, Err, IfErr, IsErrAnd, inl, inr, refl, sym, ap, ◌∙◌, subst, IsTrue, ◌⊎◌, []}
 use Rattle.std.specs.Prelude.{◌≢◌, ◌||◌, MatchOption, MatchResult, if◌then◌else◌}
 use Rattle.std.proofs.lemmas.Bool.{or_left}
 use Rattle.std.specs.Io.KnownBytes as known
@@ -18,9 +18,11 @@ use Rattle.folder_spec.proofs.Moments.{went_more, went_nowhere}
 use Rattle.folder_spec.proofs.Regions.{as_before}
 use Rattle.folder_spec.proofs.Seen.{one_view}
 use Rattle.folder_spec.proofs.Tellings.{from_to_more, from_to_same}
+use Rattle.migrate_core.specs.Causes.{IsOfPlacing}
 use Rattle.migrate_core.specs.Completing.{CanBegin, CanResume, IsOfChance}
 use Rattle.migrate_core.specs.Drawing.{Drew, DrewBy}
 use Rattle.migrate_core.specs.Faults as causes
+use Rattle.migrate_core.specs.Lasting.{KeepsEachJournal}
 use Rattle.migrate_core.specs.Moving.{MovesOnly, OnlyBrings}
 use Rattle.migrate_core.specs.declared.fault.MoveFault.{MoveFault}
 use Rattle.migrate_core.specs.declared.fault.MoveFault.TheVariants as moves
@@ -36,15 +38,21 @@ use Rattle.port_model.specs.Draws.{ByteStream}
 use Rattle.migration_spec.specs.Alone.{KeepsGuarded, StaysGuarded}
 use Rattle.migration_spec.specs.Guard.{AreOpenedBy, Guarded, IsOpenedBy, IsSafe, LosesNothing, Migration}
 use Rattle.tree_match.specs.declared.answer.MatchFault.TheVariants as match
+use Rattle.migration_sides.proofs.Unchanged.{unchanged}
+use Rattle.migration_sides.specs.Unchanged.{ChangesNothing}
 use Rattle.migration_sides.specs.declared.fault.Side.{Side}
+use Rattle.vault_faults.specs.declared.fault.FindFault.TheVariants as finds
 use Rattle.vault_faults.specs.declared.fault.Limit.TheVariants as limit
+use Rattle.vault_walk.specs.declared.fault.WalkFault.TheVariants as walks
+use Rattle.work_folder.specs.declared.fault.WorkFault.TheVariants as works
 use Rattle.vault_read.specs.declared.fault.LoadFault.{LoadFault}
 use Rattle.migrate_core.proofs.Drawing.{drew_for}
+use Rattle.migrate_core.proofs.Lastings.{texts_same}
 use Rattle.migration_commands.specs.Migrate.{HasMigrated, IsAskedFor, MigratesApart, MigratesTree, Pair, first_overlap, pair}
 use Rattle.migration_commands.specs.Migrate as migrating
 use Rattle.migration_answers.specs.Faults.{of_move}
 use Rattle.migration_answers.specs.Stops.{is_of_stop, is_of_told_stop}
-use Rattle.migration_commands.specs.Moving.{AnswersBy, AnswersMove, ArePhrases, Comes, Completes, FailPasses, HoldKeys, KeepsAll, OfPasses, Outcome, RefusesPasses, RefusesUndrawn, done_text, is_of_chance}
+use Rattle.migration_commands.specs.Moving.{AnswersBy, AnswersMove, ArePhrases, AtWrongPass, Comes, Completes, FailPasses, HoldKeys, KeepsAll, OfPasses, Outcome, RefusesPasses, RefusesUndrawn, done_text, is_of_chance}
 use Rattle.open_for_reading.specs.Opening.{IsPhrase, OfPassFile, passphrase_in}
 use Rattle.open_for_reading.specs.Places.{RefusesOverlap, overlap}
 use Rattle.command_answers.specs.Printing.{PrintsText}
@@ -54,13 +62,83 @@ use Rattle.migration_commands.specs.Resume as resuming_on
 use Rattle.open_for_reading.specs.Shown.{is_of_end, is_of_opening, refused}
 use Rattle.open_for_reading.specs.World.{World}
 use Rattle.command_answers.specs.declared.answer.Answer.{Answer}
-use Rattle.command_answers.specs.declared.answer.Answer.TheVariants.{OutOfMemory, FolderFault, Overlap, ZeroRandom}
+use Rattle.command_answers.specs.declared.answer.Answer.TheVariants.{OutOfMemory, FolderFault, Overlap, WrongPass, ZeroRandom}
 use Rattle.command_words.specs.declared.commands.Moving.{Moving}
 use Rattle.command_words.specs.declared.commands.Passes.{Passes}
 use Rattle.command_words.specs.declared.commands.Resuming.{Resuming}
 use Rattle.open_for_reading.proofs.Overlaps.{apart_by, none_drawn, refuses_overlap}
 use Rattle.open_for_reading.proofs.Printings.{IsPrinted, is_another, nothing_printed, printed, printed_is_own}
 use Rattle.open_for_reading.proofs.Refusals.{pass_gives, pass_taken, pass_then, unless_then}
+
+-- ---- a passphrase that doesn't open its vault
+
+module _ (P : Type 0) where
+  -- no fault behind the tests is told so
+  move_opens : (work root : Path) (fault : MoveFault) → IsOfPlacing fault → AtWrongPass P (of_move work root fault)
+  move_opens work root (moves.Work (works.NoParent p)) of = tt
+  move_opens work root (moves.Work (works.WrongKind p)) of = tt
+  move_opens work root (moves.Work (works.Foreign p)) of = tt
+  move_opens work root (moves.Work works.Begun) of = tt
+  move_opens work root (moves.Work works.Depth) of = tt
+  move_opens work root (moves.Work works.Failed) of = tt
+  move_opens work root (moves.Work works.NoMemory) of = tt
+  move_opens work root (moves.Journal fault) of = absurd of
+  move_opens work root (moves.Overlap p q) of = absurd of
+  move_opens work root (moves.Load side fault) of = absurd of
+  move_opens work root (moves.Walk (walks.NotClean finding)) of = tt
+  move_opens work root (moves.Walk (walks.Limit which)) of = tt
+  move_opens work root (moves.Walk walks.Failed) of = tt
+  move_opens work root (moves.Walk walks.NoMemory) of = tt
+  move_opens work root (moves.NotEmpty at) of = absurd of
+  move_opens work root (moves.NotAllowed path) of = absurd of
+  move_opens work root (moves.Meet one other) of = absurd of
+  move_opens work root (moves.Changed plan items plan' items') of = absurd of
+  move_opens work root (moves.Match (match.Damaged at fault)) of = tt
+  move_opens work root (moves.Match (match.Limit which)) of = tt
+  move_opens work root (moves.Match match.Failed) of = tt
+  move_opens work root (moves.Match match.NoMemory) of = tt
+  move_opens work root (moves.Differ path how) of = tt
+  move_opens work root (moves.Place (puts.Find (finds.NotFound path))) of = tt
+  move_opens work root (moves.Place (puts.Find (finds.WrongKind path))) of = tt
+  move_opens work root (moves.Place (puts.Find (finds.NoDirKey at))) of = tt
+  move_opens work root (moves.Place (puts.Find (finds.NoFolder at))) of = tt
+  move_opens work root (moves.Place (puts.Find finds.Failed)) of = tt
+  move_opens work root (moves.Place (puts.Find finds.NoMemory)) of = tt
+  move_opens work root (moves.Place (puts.NotAllowed path)) of = tt
+  move_opens work root (moves.Place (puts.Taken at)) of = tt
+  move_opens work root (moves.Place (puts.Damaged at fault)) of = tt
+  move_opens work root (moves.Place (puts.Limit which)) of = tt
+  move_opens work root (moves.Place puts.ZeroRandom) of = tt
+  move_opens work root (moves.Place puts.Source) of = tt
+  move_opens work root (moves.Place puts.Random) of = tt
+  move_opens work root (moves.Place puts.Failed) of = tt
+  move_opens work root (moves.Place puts.NoMemory) of = tt
+  move_opens work root moves.SourceGone of = absurd of
+  move_opens work root moves.Failed of = tt
+  move_opens work root moves.NoMemory of = tt
+
+  pub unread_printed : (answer : Answer) → IsPrinted answer → AtWrongPass P answer
+  unread_printed answer (inl is) = subst (AtWrongPass P) (sym is) tt
+  unread_printed answer (inr (inl is)) = subst (AtWrongPass P) (sym is) tt
+  unread_printed answer (inr (inr is)) = subst (AtWrongPass P) (sym is) tt
+
+at_wrong_pass : (P : Type 0) (answer : Answer) → P → AtWrongPass P answer
+at_wrong_pass P answer is = at_all answer
+  where
+    at_all : (answer : Answer) → AtWrongPass P answer
+    at_all (WrongPass root) = is
+    at_all answer = tt
+
+unchanged_at : (answer : Answer) (told told' : Option Told) → told' ≡ told → AtWrongPass (ChangesNothing told told') answer
+unchanged_at answer told told' same = at_wrong_pass (ChangesNothing told told') answer (unchanged told told' same)
+
+-- where a test refuses nothing is changed
+unread_by : (work : Path) (IsRoot : MoveFault → Path → Type 0) (answer : Answer) (told told' : Option Told) (Q : Type 0) (outcome : Outcome) → ChangesNothing told told' ⊎ (IfErr outcome IsOfPlacing × Q)
+    → AnswersMove work IsRoot answer outcome → AtWrongPass (ChangesNothing told told') answer
+unread_by work IsRoot answer told told' Q outcome (inl still) answers = at_wrong_pass (ChangesNothing told told') answer still
+unread_by work IsRoot answer told told' Q (Ok done) (inr passed) answers = unread_printed (ChangesNothing told told') answer answers
+unread_by work IsRoot answer told told' Q (Err fault) (inr passed) (inl memory) = subst (AtWrongPass (ChangesNothing told told')) (sym memory) tt
+unread_by work IsRoot answer told told' Q (Err fault) (inr passed) (inr named) = subst (AtWrongPass (ChangesNothing told told')) (sym named.2) (move_opens (ChangesNothing told told') work named.0 fault passed.0)
 
 -- ---- nothing is lost
 
@@ -155,6 +233,13 @@ OfJournal work told P = (v : View) (journal : Journal) → IsSeen told v → IsJ
 -- what a call says of it is said of what was told before, where that is the same
 pub journal_since : (work : Path) (P : Journal → Option Told → Type 0) (told mid : Option Told) → mid ≡ told → OfJournal work mid (λ journal. P journal mid) → OfJournal work told (λ journal. P journal told)
 journal_since work P told mid same = subst (λ t. OfJournal work t (λ journal. P journal t)) same
+
+-- where nothing is changed it stands
+pub journal_same : (work : Path) (told told' : Option Told) → told' ≡ told → KeepsEachJournal work told told'
+journal_same work told told' same v journal seen is stands = record {
+  moments = texts_same work journal told told' same;
+  stands = λ w is_w. inl (subst (StandsIn work journal) (one_view told v w seen (subst (λ t. IsSeen t w) same is_w)) stands);
+}
 
 -- a journal that stands is read
 pub journal_missing : ReadsBack → (work : Path) (v : View) (result : Result Journal JournalFault) → ((j : Journal) → ¬ GivesBack j result) → ReadsAs (journal_bytes v work) result → resuming_on.IsFoundJournal work v None
@@ -293,6 +378,13 @@ module _ (moving : Moving) where
     untouched = untouched;
   }
 
+  migrate_unread : (answer : Answer) (told told' : Option Told) (stream stream' : Option ByteStream) → IfSeen told (λ v. migrating.MayCome moving answer told told' stream stream' v)
+      → IfSeen told (λ v. AtWrongPass (ChangesNothing told told') answer)
+  migrate_unread answer told told' stream stream' comes v is = elim (comes v is) [
+    | inl refuses ↦ unchanged_at answer told told' refuses.0.unchanged
+    | inr came ↦ unread_by moving.work _ answer told told' _ came.outcome came.does.tested came.answers
+  ]
+
   pub migrate_stopped : (answer : Answer) (told told' : Option Told) (taken : Option (List ℕ)) (stream stream' : Option ByteStream) → IsTrue (is_of_stop answer)
       → ((first second : Path) → answer ≢ Overlap first second) → Drew (answer ≡ ZeroRandom) stream stream' → IfSeen told (λ v. migrating.MayCome moving answer told told' stream stream' v)
       → ((g : Migration) → IfSeen told (λ v. IsAskedFor g moving v → KeepsAll g told told')) → MovesOnly moving.work moving.target told told'
@@ -304,6 +396,7 @@ module _ (moving : Moving) where
     comes = comes;
     keeps = keeps;
     moves = moves;
+    unread = migrate_unread answer told told' stream stream' comes;
     completes = completes;
     prints = nothing_printed done_text (λ done. HasMigrated moving done told told') is_of_stop answer taken own refl refl;
   }
@@ -321,6 +414,7 @@ module _ (moving : Moving) where
         (AnswersMove moving.work (migrating.IsRootOf moving) answer) (answers_printed (migrating.IsRootOf moving) (λ fault root. of_move moving.work root fault) answer done is_printed) (comes v is));
     keeps = keeps;
     moves = moves;
+    unread = λ v is. unread_printed (ChangesNothing told told') answer is_printed;
     completes = λ g v is asked can. printed_is_own is_of_chance answer refl is_printed;
     prints = printed done_text (λ done. HasMigrated moving done told told') done answer taken taken' has prints is_printed;
   }
@@ -328,6 +422,13 @@ module _ (moving : Moving) where
 -- ---- `resume`
 
 module _ (resuming : Resuming) where
+  resume_unread : (answer : Answer) (told told' : Option Told) (stream stream' : Option ByteStream) → IfSeen told (λ v. resuming_on.MayCome resuming answer told told' stream stream' v)
+      → IfSeen told (λ v. AtWrongPass (ChangesNothing told told') answer)
+  resume_unread answer told told' stream stream' comes v is = elim (comes v is) [
+    | inl refuses ↦ unchanged_at answer told told' refuses.0.unchanged
+    | inr came ↦ unread_by resuming.work _ answer told told' _ came.outcome came.does.tested came.answers
+  ]
+
   -- the root that a fault names is the journal's
   abbrev IsOurs : View → MoveFault → Path → Type 0
   IsOurs v fault root = resuming_on.IsRootOf resuming.work v (resuming_on.unopened fault) root
@@ -337,14 +438,16 @@ module _ (resuming : Resuming) where
 
   pub resume_stopped : (answer : Answer) (told told' : Option Told) (taken : Option (List ℕ)) (stream stream' : Option ByteStream) → IsTrue (is_of_told_stop answer)
       → Drew (answer ≡ ZeroRandom) stream stream' → IfSeen told (λ v. resuming_on.MayCome resuming answer told told' stream stream' v)
-      → ((g : Migration) → IfSeen told (λ v. IsResumedFor g resuming v → KeepsAll g told told')) → Brings told told'
+      → ((g : Migration) → IfSeen told (λ v. IsResumedFor g resuming v → KeepsAll g told told')) → Brings told told' → KeepsEachJournal resuming.work told told'
       → ((g : Migration) → IfSeen told (λ v. IsResumedFor g resuming v → CanResume g v → Completes answer)) → Resumes resuming answer told told' taken taken stream stream'
-  resume_stopped answer told told' taken stream stream' own drew comes keeps moves completes = record {
+  resume_stopped answer told told' taken stream stream' own drew comes keeps moves journal completes = record {
     own = or_left (is_of_told_stop answer) (is_of_end answer) own;
     drew = drew;
     comes = comes;
     keeps = keeps;
     moves = moves;
+    unread = resume_unread answer told told' stream stream' comes;
+    journal = journal;
     completes = completes;
     prints = nothing_printed done_text (λ done. HasResumed resuming done told told') is_of_told_stop answer taken own refl refl;
   }
@@ -352,15 +455,17 @@ module _ (resuming : Resuming) where
   pub resume_printed : (done : moved.Done) (answer : Answer) (told told' : Option Told) (taken taken' : Option (List ℕ)) (stream stream' : Option ByteStream) → HasResumed resuming done told told'
       → Drew (comes_to done ≡ Err ZeroRandom) stream stream'
       → IfSeen told (λ v. resuming_on.ComesTo resuming (λ outcome. outcome ≡ Ok done) told told' stream stream' v)
-      → ((g : Migration) → IfSeen told (λ v. IsResumedFor g resuming v → KeepsAll g told told')) → Brings told told'
+      → ((g : Migration) → IfSeen told (λ v. IsResumedFor g resuming v → KeepsAll g told told')) → Brings told told' → KeepsEachJournal resuming.work told told'
       → PrintsText (done_text done) answer taken taken' → IsPrinted answer → Resumes resuming answer told told' taken taken' stream stream'
-  resume_printed done answer told told' taken taken' stream stream' has drew comes keeps moves prints is_printed = record {
+  resume_printed done answer told told' taken taken' stream stream' has drew comes keeps moves journal prints is_printed = record {
     own = printed_is_own is_of_told_stop answer refl is_printed;
     drew = printed_drew answer done stream stream' is_printed drew;
     comes = λ v is. inr (comes_as resuming.passes (resuming_on.IsCaused resuming v) (resuming_on.IsWritten resuming told told' stream stream' v) v (λ outcome. outcome ≡ Ok done)
         (AnswersMove resuming.work (IsOurs v) answer) (answers_printed (IsOurs v) (λ fault root. of_move resuming.work root fault) answer done is_printed) (comes v is));
     keeps = keeps;
     moves = moves;
+    unread = λ v is. unread_printed (ChangesNothing told told') answer is_printed;
+    journal = journal;
     completes = λ g v is asked can. printed_is_own is_of_chance answer refl is_printed;
     prints = printed done_text (λ done. HasResumed resuming done told told') done answer taken taken' has prints is_printed;
   }

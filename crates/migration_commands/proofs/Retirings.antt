@@ -2,7 +2,10 @@
 use Rattle.std.proofs.Common.{◌≡◌, ℕ, List, Option, Some, Ok, Err, inl, inr, refl, sym, ap, ◌∙◌, subst, IsTrue, ◌⊎◌, IfErr}
 use Rattle.std.specs.Prelude.{◌≢◌, MatchResult}
 use Rattle.std.proofs.lemmas.Bool.{or_left}
+use Rattle.folder_spec.proofs.Moments.{went_nowhere}
+use Rattle.folder_spec.proofs.Tellings.{from_to_same}
 use Rattle.folder_spec.specs.Event.{Told}
+use Rattle.folder_spec.specs.Moments.{Went}
 use Rattle.folder_spec.specs.Path.{Path}
 use Rattle.folder_spec.specs.Seen.{IfSeen, IsSeen}
 use Rattle.folder_spec.specs.View.{View}
@@ -14,7 +17,7 @@ use Rattle.retire_core.specs.Causes.{IsOfFolder, PassesTests, ReadsDone}
 use Rattle.retire_core.specs.Causes as tests
 use Rattle.retire_core.specs.Completing.{CanRetire}
 use Rattle.retire_core.specs.Faults.{of_journal, IsOfRemoval}
-use Rattle.retire_core.specs.Retiring.{RemovesOnly, TouchesOnly, retiring_by}
+use Rattle.retire_core.specs.Retiring.{KeepsInOrder, RemovesOnly, StandsBesideOld, TouchesOnly, retiring_by}
 use Rattle.retire_core.specs.declared.fault.RetireFault.{RetireFault}
 use Rattle.retire_core.specs.declared.fault.RetireFault.TheVariants as faults
 use Rattle.retire_core.specs.declared.retiring.Retired.{Retired}
@@ -50,6 +53,12 @@ folder_answered work root fault answer of (inl memory) = inr (inl memory)
 folder_answered work root fault answer (inl failed) (inr is) = inl (is ∙ ap (of_retire work root) failed)
 folder_answered work root fault answer (inr memory) (inr is) = inr (inl (is ∙ ap (of_retire work root) memory))
 
+-- nothing has changed
+pub order_same : (work : Path) (told told' : Option Told) → told' ≡ told → KeepsInOrder work told told'
+order_same work told told' same =
+    from_to_same (λ a b. Went (λ s. (s ≡ a.state) ⊎ StandsBesideOld work a.state s) (λ s e. Unit {0}) a b) told told' same
+    (λ a. went_nowhere (λ s. (s ≡ a.state) ⊎ StandsBesideOld work a.state s) (λ s e. Unit {0}) a (inl refl))
+
 module _ (resuming : Resuming) where
   pub touches_since : (told mid told' : Option Told) (v : View) (source_pass target_pass : List ℕ) (outcome : Outcome) → mid ≡ told → IsSeen told v
       → OfJournal resuming.work mid (λ journal. TouchesOnly (retiring_by resuming.work source_pass target_pass journal) mid told')
@@ -64,24 +73,26 @@ module _ (resuming : Resuming) where
   }
 
   pub retire_stopped : (answer : Answer) (told told' : Option Told) (taken : Option (List ℕ)) → IsTrue (is_of_refusal answer) → IfSeen told (λ v. MayCome resuming answer told told' v)
-      → ((g : Migration) → IfSeen told (λ v. IsResumedFor g resuming v → KeepsAll g told told'))
+      → ((g : Migration) → g.work ≡ resuming.work → KeepsAll g told told') → KeepsInOrder resuming.work told told'
       → ((g : Migration) → IfSeen told (λ v. IsResumedFor g resuming v → CanRetire g v → Completes answer)) → Retires resuming answer told told' taken taken
-  retire_stopped answer told told' taken own comes keeps completes = record {
+  retire_stopped answer told told' taken own comes keeps order completes = record {
     own = or_left (is_of_refusal answer) (is_of_end answer) own;
     comes = comes;
     keeps = keeps;
+    order = order;
     completes = completes;
     prints = nothing_printed retired_text (IsRetired resuming told told') is_of_refusal answer taken own refl refl;
   }
 
   pub retire_printed : (done : Retired) (answer : Answer) (told told' : Option Told) (taken taken' : Option (List ℕ)) → IsRetired resuming told told' done
-      → IfSeen told (λ v. ComesTo resuming (λ outcome. outcome ≡ Ok done) told told' v) → ((g : Migration) → IfSeen told (λ v. IsResumedFor g resuming v → KeepsAll g told told'))
+      → IfSeen told (λ v. ComesTo resuming (λ outcome. outcome ≡ Ok done) told told' v) → ((g : Migration) → g.work ≡ resuming.work → KeepsAll g told told') → KeepsInOrder resuming.work told told'
       → PrintsText (retired_text done) answer taken taken' → IsPrinted answer → Retires resuming answer told told' taken taken'
-  retire_printed done answer told told' taken taken' has comes keeps prints is_printed = record {
+  retire_printed done answer told told' taken taken' has comes keeps order prints is_printed = record {
     own = printed_is_own is_of_refusal answer refl is_printed;
     comes = λ v is. inr (comes_as resuming.passes (IsCaused resuming v) (TouchesNoMore resuming told told' v) v (λ outcome. outcome ≡ Ok done) (AnswersRetire resuming.work v answer)
         (answers_printed (λ fault. IsRootOf resuming.work v (unopened fault)) (λ fault root. of_retire resuming.work root fault) answer done is_printed) (comes v is));
     keeps = keeps;
+    order = order;
     completes = λ g v is asked can. printed_completes answer is_printed;
     prints = printed retired_text (IsRetired resuming told told') done answer taken taken' has prints is_printed;
   }

@@ -11,6 +11,7 @@ use Rattle.folder_spec.specs.Seen.{seen}
 use Rattle.folder_spec.specs.State.{State, IsSound, HasNothingPending}
 use Rattle.folder_spec.specs.View.{View}
 use Rattle.migration_spec.specs.Guard.{Migration, IsNotBegun, IsSeparate, IsWork, kinds_in}
+use Rattle.migration_sides.specs.Unchanged.{ChangesNothing}
 use Rattle.migration_commands.specs.Migrate.{IsAskedFor, MigratesTree}
 use Rattle.migration_commands.specs.Resume.{IsResumedFor, ResumesTree}
 use Rattle.migration_commands.specs.Retire.{RetiresSource}
@@ -23,11 +24,11 @@ pub data Asks : Type 0 where
   Resumes : Resuming → Asks
   Retires : Resuming → Asks
 
--- its folders and its rule are those of the migration, and its files of passphrases hold the keys of its vaults
+-- its folders and its rule are those of the migration, and, but for `retire`, its files of passphrases hold the keys of its vaults
 abbrev pub IsOf : Migration → Asks → View → Type 0
 IsOf g (Migrates moving) v = IsAskedFor g moving v
 IsOf g (Resumes resuming) v = IsResumedFor g resuming v
-IsOf g (Retires resuming) v = IsResumedFor g resuming v
+IsOf g (Retires resuming) v = g.work ≡ resuming.work
 
 -- it answers so, and does what it says, from the world before to the world after
 abbrev pub Does : Asks → Answer → World → World → Type 0
@@ -35,7 +36,8 @@ Does (Migrates moving) answer before after = MigratesTree moving answer before a
 Does (Resumes resuming) answer before after = ResumesTree resuming answer before after
 Does (Retires resuming) answer before after = RetiresSource resuming answer before after
 
--- a run of one of the commands over a folder that tells its state, of this migration
+-- A run of one of the commands over a folder that tells its state: of this migration, or by which nothing is changed, as by one with a
+-- passphrase that opens no vault.
 pub record Run (g : Migration) : Type 0 where
   pub asks : Asks
   pub answer : Answer
@@ -45,7 +47,7 @@ pub record Run (g : Migration) : Type 0 where
   pub end : Told
   pub tells_entry : before.told ≡ Some entry
   pub tells_end : after.told ≡ Some end
-  pub of : IsOf g asks (seen entry.state)
+  pub of : IsOf g asks (seen entry.state) ⊎ ChangesNothing (Some entry) (Some end)
   pub does : Does asks answer before after
 
 -- a state is the first of these moments or one of those after each event

@@ -8,8 +8,9 @@ use Rattle.folder_spec.specs.View.{View}
 use Rattle.migrate_core.specs.Causes.{Begins, IsOfPlacing, PassesBegin, Unless}
 use Rattle.migrate_core.specs.Completing.{CanBegin}
 use Rattle.migrate_core.specs.Drawing.{Drew}
+use Rattle.migrate_core.specs.Lasting.{Finishes}
 use Rattle.migrate_core.specs.Limits.{IsOfLimit, PassesInTree}
-use Rattle.migrate_core.specs.Moved.{MovesTree}
+use Rattle.migrate_core.specs.Moved.{IsTidyWork, MovesTree}
 use Rattle.migrate_core.specs.Moving.{MovesOnly}
 use Rattle.migrate_core.specs.Sides.{IsAsked}
 use Rattle.migrate_core.specs.Written.{MayWriteTree}
@@ -20,9 +21,10 @@ use Rattle.port_model.specs.Draws.{ByteStream}
 use Rattle.migration_spec.specs.Guard.{Migration}
 use Rattle.vault_read.specs.OwnFolders.{HasOwnFolders}
 use Rattle.vault_spec.specs.Vault.{Vault}
+use Rattle.migration_sides.specs.Lasting.{Lasts}
 use Rattle.migration_sides.specs.Unchanged.{ChangesNothing}
 use Rattle.migration_sides.specs.declared.fault.Side.TheVariants.{Target}
-use Rattle.migration_commands.specs.Moving.{AnswersMove, ArePhrases, Comes, Completes, HoldKeys, KeepsAll, Outcome, RefusesUndrawn, done_text, is_of_migration}
+use Rattle.migration_commands.specs.Moving.{AnswersMove, ArePhrases, AtWrongPass, Comes, Completes, HoldKeys, KeepsAll, Outcome, RefusesUndrawn, done_text, is_of_migration}
 use Rattle.open_for_reading.specs.Opening.{Opens}
 use Rattle.open_for_reading.specs.Places.{overlap, RefusesOverlap}
 use Rattle.command_answers.specs.Printing.{PrintsDone}
@@ -53,12 +55,17 @@ pub record IsAskedFor (g : Migration) (moving : Moving) (v : View) : Type 0 wher
   pub asked : IsAsked g moving.names moving.source moving.target moving.work
   pub keys : HoldKeys g moving.passes v
 
--- both vaults, which the passphrases in the two files open, are clean, the target has the mapped tree of the source, and the journal says so
+-- Both vaults, which the passphrases in the two files open, are clean, the target has the mapped tree of the source, and the journal says
+-- so. That lasts: no directory change is pending, and where the migration was guarded at first it is finished. And an empty stage and the
+-- journal alone are left in the work folder.
 pub record HasMigrated (moving : Moving) (done : moved.Done) (told told' : Option Told) : Type 0 where
   pub source_pass : List ℕ
   pub target_pass : List ℕ
   pub phrases : IfSeen told (λ v. ArePhrases moving.passes source_pass target_pass v)
   pub moves : MovesTree moving.names moving.source moving.target moving.work source_pass target_pass done told told'
+  pub lasts : Lasts told'
+  pub finishes : (g : Migration) → IfSeen told (λ v. IsAskedFor g moving v → Finishes g told told')
+  pub clears : IfSeen told' (λ v. IsTidyWork moving.work v)
 
 -- the root of the vault that isn't opened
 abbrev pub root_of : Moving → MoveFault → Path
@@ -95,7 +102,8 @@ SidesHaveOwnFolders moving v =
 
 -- Of folders that don't overlap: whatever the answer is, nothing is lost; all but the work folder and the target stays as it was, nothing
 -- of the target is removed or replaced, and files come there staged. At 0 the tree is moved. Where no test can fail and no content is
--- damaged, it comes to that. It isn't answered that they overlap; and zeros are the answer only where sixteen were drawn last.
+-- damaged, it comes to that. It isn't answered that they overlap; zeros are the answer only where sixteen were drawn last; and where a
+-- passphrase doesn't open its vault, nothing is changed.
 pub record MigratesApart (moving : Moving) (answer : Answer) (told told' : Option Told) (taken taken' : Option (List ℕ)) (stream stream' : Option ByteStream) : Type 0 where
   pub own : IsTrue (is_of_migration answer)
   pub apart : (first second : Path) → answer ≢ Overlap first second
@@ -103,6 +111,7 @@ pub record MigratesApart (moving : Moving) (answer : Answer) (told told' : Optio
   pub comes : IfSeen told (λ v. MayCome moving answer told told' stream stream' v)
   pub keeps : (g : Migration) → IfSeen told (λ v. IsAskedFor g moving v → KeepsAll g told told')
   pub moves : MovesOnly moving.work moving.target told told'
+  pub unread : IfSeen told (λ v. AtWrongPass (ChangesNothing told told') answer)
   pub completes : (g : Migration) → IfSeen told (λ v. IsAskedFor g moving v → CanBegin g v → Completes answer)
   pub prints : PrintsDone done_text (λ done. HasMigrated moving done told told') answer taken taken'
 

@@ -14,7 +14,7 @@ use Rattle.open_for_reading.specs.Opening.{IsPhrase, OfPassFile}
 use Rattle.open_for_reading.specs.Refusing.{Unless}
 use Rattle.open_for_reading.specs.Shown.{is_of_end, refused}
 use Rattle.command_answers.specs.declared.answer.Answer.{Answer}
-use Rattle.command_answers.specs.declared.answer.Answer.TheVariants.{Done, OutOfMemory, FolderFault, OutputFault, RandomFault, ZeroRandom, Taken}
+use Rattle.command_answers.specs.declared.answer.Answer.TheVariants.{Done, OutOfMemory, FolderFault, OutputFault, RandomFault, WrongPass, ZeroRandom, Taken}
 use Rattle.command_answers.specs.declared.answer.Answer.TheVariants as answers
 use Rattle.command_answers.specs.declared.answer.Limit as limits
 use Rattle.command_answers.specs.declared.answer.Limit.TheVariants as limit
@@ -73,6 +73,11 @@ pub record Comes {O : Type 0} (passes : Passes) (IsCaused : List ℕ → List �
 -- where the migration is guarded at first, nothing is lost at any moment
 abbrev pub KeepsAll : Migration → Option Told → Option Told → Type 0
 KeepsAll g = FromTo (λ a b. Guarded g a.state → Went (LosesNothing g) (λ s e. Unit {0}) a b)
+
+-- where the answer is that a passphrase doesn't open its vault, this is so
+abbrev pub AtWrongPass : Type 0 → Answer → Type 0
+AtWrongPass P (WrongPass root) = P
+AtWrongPass P answer = Unit {0}
 
 -- `placed N, items M`
 abbrev pub done_text : moved.Done → List ℕ

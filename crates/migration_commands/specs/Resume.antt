@@ -9,6 +9,7 @@ use Rattle.migrate_core.specs.Causes.{IsOfPlacing, PassesResume, Unless}
 use Rattle.migrate_core.specs.Causes as causes
 use Rattle.migrate_core.specs.Completing.{CanResume}
 use Rattle.migrate_core.specs.Drawing.{Drew}
+use Rattle.migrate_core.specs.Lasting.{Clears, Finishes, KeepsEachJournal}
 use Rattle.migrate_core.specs.Limits.{IsOfLimit, PassesAsTold}
 use Rattle.migrate_core.specs.Moved.{MovesTold}
 use Rattle.migrate_core.specs.Moving.{MovesOnly}
@@ -21,10 +22,11 @@ use Rattle.move_journal.specs.declared.journal.Journal.{Journal}
 use Rattle.move_journal.specs.Reading.{StandsIn}
 use Rattle.port_model.specs.Draws.{ByteStream}
 use Rattle.migration_spec.specs.Guard.{Migration}
+use Rattle.migration_sides.specs.Lasting.{Lasts}
 use Rattle.migration_sides.specs.Unchanged.{ChangesNothing}
 use Rattle.migration_sides.specs.declared.fault.Side.{Side}
 use Rattle.migration_sides.specs.declared.fault.Side.TheVariants.{Source, Target}
-use Rattle.migration_commands.specs.Moving.{AnswersMove, ArePhrases, Comes, Completes, HoldKeys, KeepsAll, Outcome, RefusesUndrawn, done_text, is_of_told_migration}
+use Rattle.migration_commands.specs.Moving.{AnswersMove, ArePhrases, AtWrongPass, Comes, Completes, HoldKeys, KeepsAll, Outcome, RefusesUndrawn, done_text, is_of_told_migration}
 use Rattle.command_answers.specs.Printing.{PrintsDone}
 use Rattle.open_for_reading.specs.World.{World}
 use Rattle.command_answers.specs.declared.answer.Answer.{Answer}
@@ -36,13 +38,17 @@ pub record IsResumedFor (g : Migration) (resuming : Resuming) (v : View) : Type 
   pub work : g.work ≡ resuming.work
   pub keys : HoldKeys g resuming.passes v
 
--- both vaults, which the journal tells and the passphrases in the two files open, are clean, the target has the mapped tree of the source by
--- the journal's rule, and the journal says so
+-- Both vaults, which the journal tells and the passphrases in the two files open, are clean, the target has the mapped tree of the source by
+-- the journal's rule, and the journal says so. That lasts: no directory change is pending, and where the migration was guarded at first it
+-- is finished. And in the work folder `stage` is empty, and `journal.new` is gone or as it was.
 pub record HasResumed (resuming : Resuming) (done : moved.Done) (told told' : Option Told) : Type 0 where
   pub source_pass : List ℕ
   pub target_pass : List ℕ
   pub phrases : IfSeen told (λ v. ArePhrases resuming.passes source_pass target_pass v)
   pub moves : IfSeen told (λ v. MovesTold resuming.work source_pass target_pass done told told' v)
+  pub lasts : Lasts told'
+  pub finishes : (g : Migration) → IfSeen told (λ v. IsResumedFor g resuming v → Finishes g told told')
+  pub clears : Clears resuming.work told told'
 
 -- the root of a vault that the journal tells
 abbrev pub root_in : Journal → Side → Path
@@ -84,13 +90,16 @@ MayCome resuming answer told told' stream stream' v =
 
 -- Whatever the answer is, nothing is lost; where a journal stands in the work folder, all but that folder and the target stays as it was,
 -- and nothing of the target is removed or replaced. At 0 the tree is moved. Where no test can fail and no content is damaged, it comes to
--- that. Zeros are the answer only where sixteen were drawn last.
+-- that. Zeros are the answer only where sixteen were drawn last; where a passphrase doesn't open its vault, nothing is changed; and a journal
+-- that stood stands, or one that says that all is done.
 pub record Resumes (resuming : Resuming) (answer : Answer) (told told' : Option Told) (taken taken' : Option (List ℕ)) (stream stream' : Option ByteStream) : Type 0 where
   pub own : IsTrue (is_of_told_migration answer)
   pub drew : Drew (answer ≡ ZeroRandom) stream stream'
   pub comes : IfSeen told (λ v. MayCome resuming answer told told' stream stream' v)
   pub keeps : (g : Migration) → IfSeen told (λ v. IsResumedFor g resuming v → KeepsAll g told told')
   pub moves : (v : View) (journal : Journal) → IsSeen told v → IsJournal journal → StandsIn resuming.work journal v → MovesOnly resuming.work journal.target told told'
+  pub unread : IfSeen told (λ v. AtWrongPass (ChangesNothing told told') answer)
+  pub journal : KeepsEachJournal resuming.work told told'
   pub completes : (g : Migration) → IfSeen told (λ v. IsResumedFor g resuming v → CanResume g v → Completes answer)
   pub prints : PrintsDone done_text (λ done. HasResumed resuming done told told') answer taken taken'
 

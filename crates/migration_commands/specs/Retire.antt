@@ -12,10 +12,11 @@ use Rattle.retire_core.specs.Causes.{PassesTests, Unless}
 use Rattle.retire_core.specs.Causes as causes
 use Rattle.retire_core.specs.Completing.{CanRetire}
 use Rattle.retire_core.specs.Faults.{IsOfRemoval}
-use Rattle.retire_core.specs.Retiring.{HasRetired, RemovesOnly, TouchesOnly, retiring_by}
+use Rattle.retire_core.specs.Retiring.{HasRetired, KeepsInOrder, RemovesOnly, TouchesOnly, retiring_by}
 use Rattle.retire_core.specs.declared.fault.RetireFault.{RetireFault}
 use Rattle.retire_core.specs.declared.fault.RetireFault.TheVariants.{Load}
 use Rattle.retire_core.specs.declared.retiring.Retired.{Retired}
+use Rattle.migration_sides.specs.Lasting.{Lasts}
 use Rattle.migration_sides.specs.Unchanged.{ChangesNothing}
 use Rattle.migration_sides.specs.declared.fault.Side.{Side}
 use Rattle.migration_spec.specs.Guard.{Migration}
@@ -68,19 +69,22 @@ MayCome resuming answer told told' v = RefusesPasses resuming.passes answer told
 abbrev pub retired_text : Retired → List ℕ
 retired_text retired = codes "retired " ++ decimal retired.items ++ 10 ∷ []
 
--- the journal said that all is done, of so many items; the source is gone, and so is the work folder
-abbrev pub IsRetired : Resuming → Option Told → Option Told → Retired → Type 0
-IsRetired resuming told told' retired = IfSeen told (λ v. HasRetired resuming.work retired.items told' v)
+-- the journal said that all is done, of so many items; the source is gone, and so is the work folder, and that lasts
+pub record IsRetired (resuming : Resuming) (told told' : Option Told) (retired : Retired) : Type 0 where
+  pub gone : IfSeen told (λ v. HasRetired resuming.work retired.items told' v)
+  pub lasts : Lasts told'
 
 -- it comes to its end, unless the folder failed or memory was refused
 abbrev pub Completes : Answer → Type 0
 Completes answer = folder.Unless answer (IsTrue (is_of_end answer))
 
--- Whatever the answer is, nothing is lost, and no more is touched. Where no test can fail, the source is retired.
+-- Whatever the answer is, nothing is lost of any migration through the work folder, no more is touched, and the journal goes after `old`.
+-- Where no test can fail, the source is retired.
 pub record Retires (resuming : Resuming) (answer : Answer) (told told' : Option Told) (taken taken' : Option (List ℕ)) : Type 0 where
   pub own : IsTrue (is_of_retiring answer)
   pub comes : IfSeen told (λ v. MayCome resuming answer told told' v)
-  pub keeps : (g : Migration) → IfSeen told (λ v. IsResumedFor g resuming v → KeepsAll g told told')
+  pub keeps : (g : Migration) → g.work ≡ resuming.work → KeepsAll g told told'
+  pub order : KeepsInOrder resuming.work told told'
   pub completes : (g : Migration) → IfSeen told (λ v. IsResumedFor g resuming v → CanRetire g v → Completes answer)
   pub prints : PrintsDone retired_text (IsRetired resuming told told') answer taken taken'
 

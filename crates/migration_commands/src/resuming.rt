@@ -5,6 +5,7 @@ ghost use Rattle.folder_spec.specs.View.{View};
 ghost use Rattle.migrate_core.specs.Completing.{CanResume};
 ghost use Rattle.migrate_core.specs.Drawing.{Drew};
 ghost use Rattle.migrate_core.specs.Faults.{IsMoveFault};
+ghost use Rattle.migrate_core.specs.Lasting.{KeepsEachJournal};
 ghost use Rattle.migrate_core.specs.Moving.{MovesOnly};
 ghost use Rattle.move_journal.specs.Journal.{IsJournal};
 ghost use Rattle.move_journal.specs.Reading.{StandsIn};
@@ -67,6 +68,7 @@ fn go_on<F: Folder, R: Randoms>(
     ensures stopped { IfErr result (λ answer. IfSeen (F.told folder.old) (λ v. MayCome resuming.now answer (F.told folder.old) (F.told folder.new) (R.left random.old) (R.left random.new) v)) }
     ensures keeps { (g : Migration) → IfSeen (F.told folder.old) (λ v. IsResumedFor g resuming.now v → KeepsAll g (F.told folder.old) (F.told folder.new)) }
     ensures moves { (v : View) (journal : Journal) → IsSeen (F.told folder.old) v → IsJournal journal → StandsIn resuming.now.work journal v → MovesOnly resuming.now.work journal.target (F.told folder.old) (F.told folder.new) }
+    ensures journal { KeepsEachJournal resuming.now.work (F.told folder.old) (F.told folder.new) }
     ensures completes { IfErr result (λ answer. (g : Migration) → IfSeen (F.told folder.old) (λ v. IsResumedFor g resuming.now v → CanResume g v → Completes answer)) }
     ensures own { IfErr result (λ answer. IsTrue (is_of_told_stop answer)) }
     ensures failed { result ≡ Err Answer.FolderFault → CountRose (F.faults folder.old) (F.faults folder.new) }

@@ -5,6 +5,7 @@ ghost use Rattle.port_model.specs.Counts.{CountRose};
 ghost use Rattle.port_model.specs.Draws.{ByteStream};
 ghost use Rattle.retire_core.specs.Completing.{CanRetire};
 ghost use Rattle.retire_core.specs.Faults.{IsRetireFault};
+ghost use Rattle.retire_core.specs.Retiring.{KeepsInOrder};
 ghost use Rattle.migration_spec.specs.Guard.{Migration};
 ghost use Rattle.command_answers.specs.Printing.{PrintsText};
 ghost use Rattle.open_for_reading.specs.World.{World};
@@ -56,7 +57,8 @@ fn remove<F: Folder>(alloc: Global, resuming: &Resuming, folder: &mut F) -> Resu
     ensures retired { IfOk result (λ retired. IsRetired resuming.now (F.told folder.old) (F.told folder.new) retired) }
     ensures came { IfOk result (λ retired. IfSeen (F.told folder.old) (λ v. ComesTo resuming.now (λ outcome. outcome ≡ Ok retired) (F.told folder.old) (F.told folder.new) v)) }
     ensures stopped { IfErr result (λ answer. IfSeen (F.told folder.old) (λ v. MayCome resuming.now answer (F.told folder.old) (F.told folder.new) v)) }
-    ensures keeps { (g : Migration) → IfSeen (F.told folder.old) (λ v. IsResumedFor g resuming.now v → KeepsAll g (F.told folder.old) (F.told folder.new)) }
+    ensures keeps { (g : Migration) → g.work ≡ resuming.now.work → KeepsAll g (F.told folder.old) (F.told folder.new) }
+    ensures order { KeepsInOrder resuming.now.work (F.told folder.old) (F.told folder.new) }
     ensures completes { IfErr result (λ answer. (g : Migration) → IfSeen (F.told folder.old) (λ v. IsResumedFor g resuming.now v → CanRetire g v → Completes answer)) }
     ensures own { IfErr result (λ answer. IsTrue (is_of_refusal answer)) }
     ensures failed { result ≡ Err Answer.FolderFault → CountRose (F.faults folder.old) (F.faults folder.new) }

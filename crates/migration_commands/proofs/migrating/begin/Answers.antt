@@ -2,6 +2,7 @@ use Rattle.std.proofs.Common.{subst, Ok, Err, IfErr, inl, inr, refl, sym}
 use Rattle.std.proofs.lemmas.Result.{err_from_is_err_and}
 use Rattle.folder_spec.specs.Seen.{IfSeen, IsSeen}
 use Rattle.migrate_core.specs.Causes.{IsOfPlacing, PassesBegin}
+use Rattle.migrate_core.specs.Lasting.{Finishes}
 use Rattle.migrate_core.specs.Moved.{MovesTree}
 use Rattle.migration_sides.proofs.Unchanged.{tested_seen}
 use Rattle.migrate_core.specs.Completing.{CanBegin}
@@ -24,6 +25,15 @@ returns-in-Ok-clause-migrated g c =
       phrases = λ v is. phrases_are moving.passes c.in_ok-phrases.phrases.source c.in_ok-phrases.phrases.target c.as_slice.result.now c.as_slice-2.result.now v c.as_slice.ensures c.as_slice-2.ensures
           (c.in_ok-phrases.ensures.source v is) (c.in_ok-phrases.ensures.target v is);
       moves = subst (λ t. MovesTree moving.names moving.source moving.target moving.work c.as_slice.result.now c.as_slice-2.result.now c.in-Ok.done t (g.F.Folder.told c.begin.new.folder)) c.in_ok-phrases.ensures.told c.in-Ok.ensures.moved;
+      lasts = c.in-Ok.ensures.lasts;
+      finishes = λ m v is asked.
+          let mid = g.F.Folder.told c.read_passes.new.folder in
+          let same = c.in_ok-phrases.ensures.told in
+          let are : ArePhrases moving.passes c.as_slice.result.now c.as_slice-2.result.now v = phrases_are moving.passes c.in_ok-phrases.phrases.source c.in_ok-phrases.phrases.target
+          c.as_slice.result.now c.as_slice-2.result.now v c.as_slice.ensures c.as_slice-2.ensures (c.in_ok-phrases.ensures.source v is) (c.in_ok-phrases.ensures.target v is) in
+          subst (λ t. Finishes m t (g.F.Folder.told c.begin.new.folder)) same
+          (c.in-Ok.ensures.finishes m asked.asked (keys_seen m moving.passes v (g.F.Folder.told c.args.folder.now) mid c.as_slice.result.now c.as_slice-2.result.now same is are asked.keys));
+      clears = c.in-Ok.ensures.tidy;
     }
 
 pub returns-in-Ok-clause-keeps : goal.returns-in-Ok-clause-keeps

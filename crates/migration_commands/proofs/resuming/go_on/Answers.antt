@@ -1,6 +1,7 @@
 use Rattle.std.proofs.Common.{Ok, Err, IfErr, inl, inr, refl, sym, subst}
 use Rattle.std.proofs.lemmas.Result.{err_from_is_err_and}
 use Rattle.folder_spec.specs.Seen.{IfSeen, IsSeen}
+use Rattle.migrate_core.specs.Lasting.{Clears, Finishes, KeepsJournal}
 use Rattle.migrate_core.specs.Moved.{MovesTold}
 use Rattle.migrate_core.specs.Completing.{CanResume}
 use Rattle.migrate_core.specs.Moving.{MovesOnly}
@@ -9,7 +10,7 @@ use Rattle.migration_sides.proofs.Unchanged.{tested_seen}
 use Rattle.migration_spec.specs.Guard.{Migration}
 use Rattle.migration_commands.specs.Moving.{ArePhrases, Completes}
 use Rattle.migration_commands.specs.Resume.{IsResumedFor, IsWritten, MayCome, root_by, unopened}
-use Rattle.migration_commands.proofs.Migrations.{chance_answered, done_drew, fault_drew, journal_root, journal_since, keeps_since, keeps_same, phrases_are, read_completes, keys_read, keys_seen, unread_drew, unread_undrawn}
+use Rattle.migration_commands.proofs.Migrations.{chance_answered, done_drew, fault_drew, journal_root, journal_same, journal_since, keeps_since, keeps_same, phrases_are, read_completes, keys_read, keys_seen, unread_drew, unread_undrawn}
 use Rattle.migration_commands.proofs.resuming.go_on.Goals as goal
 
 pub returns-in_err-known-clause-keeps : goal.returns-in_err-known-clause-keeps
@@ -38,6 +39,13 @@ returns-in-Ok-clause-resumed g c =
           (c.in_ok-known.ensures.source v is) (c.in_ok-known.ensures.target v is);
       moves = λ v is. subst (λ t. MovesTold resuming.work c.as_slice.result.now c.as_slice-2.result.now c.in-Ok.done t (g.F.Folder.told c.resume.new.folder) v) same
           (c.in-Ok.ensures.moved v (subst (λ t. IsSeen t v) (sym same) is));
+      lasts = c.in-Ok.ensures.lasts;
+      finishes = λ m v is asked.
+          let are : ArePhrases resuming.passes c.as_slice.result.now c.as_slice-2.result.now v = phrases_are resuming.passes c.in_ok-known.known.phrases.source c.in_ok-known.known.phrases.target
+          c.as_slice.result.now c.as_slice-2.result.now v c.as_slice.ensures c.as_slice-2.ensures (c.in_ok-known.ensures.source v is) (c.in_ok-known.ensures.target v is) in
+          subst (λ t. Finishes m t (g.F.Folder.told c.resume.new.folder)) same
+          (c.in-Ok.ensures.finishes m asked.work (keys_seen m resuming.passes v (g.F.Folder.told c.args.folder.now) (g.F.Folder.told c.learn.new.folder) c.as_slice.result.now c.as_slice-2.result.now same is are asked.keys));
+      clears = subst (λ t. Clears resuming.work t (g.F.Folder.told c.resume.new.folder)) same c.in-Ok.ensures.clears;
     }
 
 pub returns-in-Ok-clause-keeps : goal.returns-in-Ok-clause-keeps
@@ -149,3 +157,16 @@ returns-in-Ok-clause-drew g c = done_drew c.in-Ok.done (g.R.Randoms.left c.args.
 
 pub returns-clause-drew : goal.returns-clause-drew
 returns-clause-drew g c = fault_drew c.in-Err.fault c.stopped.result (g.R.Randoms.left c.args.random.now) (g.R.Randoms.left c.resume.new.random) c.stopped.ensures.zeros c.in-Err.ensures.drew
+
+pub returns-in_err-known-clause-journal : goal.returns-in_err-known-clause-journal
+returns-in_err-known-clause-journal g c = journal_same c.args.resuming.now.work (g.F.Folder.told c.args.folder.now) (g.F.Folder.told c.learn.new.folder) c.in_err-known.ensures.told
+
+pub returns-in-Ok-clause-journal : goal.returns-in-Ok-clause-journal
+returns-in-Ok-clause-journal g c =
+    journal_since c.args.resuming.now.work (λ journal t. KeepsJournal c.args.resuming.now.work journal t (g.F.Folder.told c.resume.new.folder)) (g.F.Folder.told c.args.folder.now) (g.F.Folder.told c.learn.new.folder)
+    c.in_ok-known.ensures.told c.resume.ensures.journal
+
+pub returns-clause-journal : goal.returns-clause-journal
+returns-clause-journal g c =
+    journal_since c.args.resuming.now.work (λ journal t. KeepsJournal c.args.resuming.now.work journal t (g.F.Folder.told c.resume.new.folder)) (g.F.Folder.told c.args.folder.now) (g.F.Folder.told c.learn.new.folder)
+    c.in_ok-known.ensures.told c.resume.ensures.journal

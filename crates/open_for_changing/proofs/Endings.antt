@@ -13,6 +13,7 @@ use Rattle.open_for_reading.specs.Places.{RefusesOverlap, overlap}
 use Rattle.open_for_reading.specs.Refusing.{Unless}
 use Rattle.open_for_reading.specs.World.{World}
 use Rattle.open_for_changing.specs.Beginning.{ChangesWork, EndsBefore, MakesApart, MakesBeside}
+use Rattle.open_for_changing.specs.Staying.{Leaves}
 use Rattle.open_for_changing.proofs.Beginnings.{went_alone}
 use Rattle.command_answers.specs.declared.answer.Answer.{Answer}
 use Rattle.command_answers.specs.declared.answer.Answer.TheVariants.{OutOfMemory, Overlap}
@@ -33,10 +34,10 @@ module _ (is_own : Answer → Bool) (vault work : Path) (Tests : View → Type 0
 
   -- it ended before that
   pub ended_before : (answer : Answer) (w : World) (told : Option Told) → (overlap vault work ≡ true → ((answer ≡ Overlap vault work) ⊎ (answer ≡ OutOfMemory)) × (told ≡ w.told))
-      → (overlap vault work ≡ false → IfSeen w.told (λ v. Unless answer (Tests v))) → (overlap vault work ≡ false → IsTrue (is_own answer)) → ChangesWork work w.told told
+      → (overlap vault work ≡ false → IfSeen w.told (λ v. Unless answer (Tests v))) → (overlap vault work ≡ false → IsTrue (is_own answer)) → ChangesWork work w.told told → Leaves work w.told told
       → MakesBeside is_own vault work Tests Makes answer w (record w { told = told })
-  ended_before answer w told overlapping refuses own begins = record {
+  ended_before answer w told overlapping refuses own begins leaves = record {
     apart = by_test (overlap vault work) _ _ (λ is. refuses_overlap vault work answer w told (overlapping is).0 (overlapping is).1)
-        (λ apart. record { cause = refuses apart; comes = inl (ends_before is_own work answer w (record w { told = told }) (own apart) begins (none_drawn w.random) (Keeps-refl w.left)) });
+        (λ apart. record { cause = refuses apart; leaves = leaves; comes = inl (ends_before is_own work answer w (record w { told = told }) (own apart) begins (none_drawn w.random) (Keeps-refl w.left)) });
     unwritten = Keeps-refl w.taken;
   }

@@ -1,3 +1,4 @@
 pub mod Beginnings
 pub mod Endings
+pub mod Leavings
 pub mod Sites

@@ -14,6 +14,7 @@ use Rattle.vault_spec.specs.Vault.{Either, Vault}
 use Rattle.work_folder.specs.Entering.{EntersAs}
 use Rattle.work_folder.specs.Looking as work
 use Rattle.open_for_changing.specs.Faults.{of_work}
+use Rattle.open_for_changing.specs.Staying.{Leaves}
 use Rattle.open_for_reading.specs.Opening.{OfPassFile, OfVault}
 use Rattle.open_for_reading.specs.Places.{RefusesOverlap, overlap}
 use Rattle.open_for_reading.specs.Refusing.{Unless}
@@ -45,10 +46,11 @@ pub record EndsBefore (is_own : Answer → Bool) (work : Path) (answer : Answer)
   pub undrawn : Draws before.random after.random []
   pub untouched : Keeps before.left after.left
 
--- Of folders that don't overlap: the first test that fails by what is seen at first is the answer; and the call ended before it came to
--- the making, or that is done.
+-- Of folders that don't overlap: the first test that fails by what is seen at first is the answer; what is foreign in the work folder
+-- stays; and the call ended before it came to the making, or that is done.
 pub record MakesApart (is_own : Answer → Bool) (work : Path) (Tests : View → Type 0) (Makes : Type 0) (answer : Answer) (before after : World) : Type 0 where
   pub cause : IfSeen before.told (λ v. Unless answer (Tests v))
+  pub leaves : Leaves work before.told after.told
   pub comes : EndsBefore is_own work answer before after ⊎ Makes
 
 -- A command makes something of a vault beside a work folder, and writes nothing.

@@ -1,3 +1,4 @@
 pub mod Faults
 pub mod Beginning
 pub mod Refusing
+pub mod Staying

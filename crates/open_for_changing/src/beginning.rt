@@ -2,7 +2,7 @@
 ghost use Rattle.std.specs.Prelude.{◌≡◌, ◌⊎◌, ◌≤◌, true, false, Ok, Err, IfErr, IfOk, IsTrue};
 ghost use Rattle.folder_spec.specs.Seen.{IfSeen};
 ghost use Rattle.port_model.specs.Counts.{CountRose};
-ghost use Rattle.work_folder.specs.Entering.{EntersAs, IsReady};
+ghost use Rattle.work_folder.specs.Entering.{EntersAs, IsFresh, IsReady};
 ghost use Rattle.open_for_reading.specs.Tests.{is_of_beginning, is_of_readying};
 ghost use Rattle.open_for_changing.specs.Beginning.{ChangesWork};
 ghost use Rattle.open_for_reading.specs.Places.{overlap};
@@ -10,6 +10,7 @@ ghost use Rattle.open_for_changing.specs.Faults.{of_work};
 ghost use Rattle.open_for_reading.specs.Opening.{IsPhrase, Opens};
 ghost use Rattle.open_for_reading.specs.Refusing.{RefusesPass};
 ghost use Rattle.open_for_changing.specs.Refusing.{RefusesSite, RefusesWork};
+ghost use Rattle.open_for_changing.specs.Staying.{Leaves};
 ghost use Rattle.item_making.specs.Placing.{MayMake};
 
 use command_answers::{Answer, Limit, Named};
@@ -35,12 +36,14 @@ pub fn begin<F: Folder>(alloc: Global, change: &Change, folder: &mut F) -> Resul
     ensures root { IfOk result (λ site. site.vault.root ≡ change.now.target.vault) }
     ensures opened { IfOk result (λ site. IfSeen (F.told folder.old) (λ v. Opens v change.now.target.vault change.now.target.pass site.vault.vault)) }
     ensures may { IfOk result (λ site. MayMake (F.told folder.new) site.work site.vault.root) }
+    ensures fresh { IfOk result (λ site. IfSeen (F.told folder.new) (λ v. IsFresh v change.now.work)) }
     ensures entered { IfOk result (λ site. IfSeen (F.told folder.old) (λ v. EntersAs v change.now.work (Ok tt))) }
     ensures apart { IfOk result (λ site. overlap change.now.target.vault change.now.work ≡ false) }
     ensures overlapping { IfErr result (λ answer. overlap change.now.target.vault change.now.work ≡ true → ((answer ≡ Answer.Overlap change.now.target.vault change.now.work) ⊎ (answer ≡ Answer.OutOfMemory)) × (F.told folder.new ≡ F.told folder.old)) }
     ensures refused { IfErr result (λ answer. overlap change.now.target.vault change.now.work ≡ false → IfSeen (F.told folder.old) (λ v. RefusesSite change.now v answer)) }
     ensures own { IfErr result (λ answer. overlap change.now.target.vault change.now.work ≡ false → IsTrue (is_of_beginning answer)) }
     ensures moments { ChangesWork change.now.work (F.told folder.old) (F.told folder.new) }
+    ensures leaves { Leaves change.now.work (F.told folder.old) (F.told folder.new) }
     ensures grows { F.faults folder.old ≤ F.faults folder.new }
     ensures failed { result ≡ Err Answer.FolderFault → CountRose (F.faults folder.old) (F.faults folder.new) }
 {
@@ -79,10 +82,12 @@ pub fn read_apart<F: Folder>(
 pub fn enter_settled<F: Folder>(folder: &mut F, work: &FPath) -> Result<Work, Answer>
     ensures path { IfOk result (λ entered. entered ≡ work.now) }
     ensures ready { IfOk result (λ entered. IfSeen (F.told folder.new) (λ v. IsReady v work.now)) }
+    ensures fresh { IfOk result (λ entered. IfSeen (F.told folder.new) (λ v. IsFresh v work.now)) }
     ensures entered { IfOk result (λ entered. IfSeen (F.told folder.old) (λ v. EntersAs v work.now (Ok tt))) }
     ensures refused { IfErr result (λ answer. IfSeen (F.told folder.old) (λ v. RefusesWork v work.now answer)) }
     ensures own { IfErr result (λ answer. IsTrue (is_of_readying answer)) }
     ensures moments { ChangesWork work.now (F.told folder.old) (F.told folder.new) }
+    ensures leaves { Leaves work.now (F.told folder.old) (F.told folder.new) }
     ensures grows { F.faults folder.old ≤ F.faults folder.new }
     ensures failed { result ≡ Err Answer.FolderFault → CountRose (F.faults folder.old) (F.faults folder.new) }
 {

@@ -14,6 +14,8 @@ use Rattle.folder_spec.specs.Seen.{IfSeen, IsSeen, seen, under}
 use Rattle.folder_spec.specs.View.{View, AgreeIn, Shows}
 use Rattle.folder_spec.proofs.Edits.{unchanged_shows}
 use Rattle.folder_spec.proofs.Moments.{went_on, went_more, went_to}
+use Rattle.folder_spec.proofs.Paths.{base_or_child}
+use Rattle.folder_spec.proofs.Tellings.{from_to_more}
 use Rattle.plain_tree.specs.Names as plain
 use Rattle.vault_spec.specs.Opened.{OpenedVault}
 use Rattle.vault_faults.specs.declared.fault.FindFault.TheVariants as finds
@@ -21,12 +23,14 @@ use Rattle.vault_spec.specs.Making.{NewItem, NewDirectory}
 use Rattle.vault_spec.specs.Vault.{Vault}
 use Rattle.vault_write.specs.Calls.{How, New, IsOfMaking, IsUnpublished, making_by, AnswersBy, MakesOne, MakesAt, MakesDirectory}
 use Rattle.vault_write.specs.Faults.{IsDirectoryFault}
-use Rattle.item_making.specs.Making.{Placing, Making, format, path_of, is_elsewhere, is_unstaged, StagesOrPlaces}
+use Rattle.item_making.specs.Making.{Placing, Making, format, path_of, is_apart, is_elsewhere, is_unstaged, StagesOrPlaces}
 use Rattle.item_making.specs.Placing.{ShowsOne, ShowsNewTree, IsMaking, EndsAs, making_at}
 use Rattle.item_making.specs.Trees.{KeepsTree, GainsItem, opens_as}
-use Rattle.work_folder.specs.Entering.{EntersAs}
+use Rattle.work_folder.specs.Entering.{EntersAs, IsFresh, IsReady}
 use Rattle.open_for_changing.proofs.Beginnings.{Alike, Begins, Outside, apart_of_both, apart_of_unstaged, as_before_in, as_before_then, begun_then, same_under, seen_after, seen_alike, unstaged, went_alone}
 use Rattle.open_for_changing.proofs.Endings.{ended_before, made_beside}
+use Rattle.open_for_changing.proofs.Leavings.{fresh_then, leaves_then, stays_in_part, stays_nowhere, unused_apart}
+use Rattle.open_for_changing.specs.Staying.{Leaves, StaysIn, is_unused}
 use Rattle.open_for_reading.proofs.Refusals.{pass_gives, unless_then}
 use Rattle.open_for_changing.proofs.Sites.{site_then}
 use Rattle.open_for_changing.specs.Beginning.{ChangesOnlyWork, IsBeginning, ChangesWork, OfSite, OfWork}
@@ -171,6 +175,38 @@ item_made outside alike how vault work path item ending drawn t u w result sound
   root = λ is. (went_alone work t w (subst (ChangesWork work t) (sym (makes.root is).0) begins), (makes.root is).1, (makes.root is).2);
 }
 
+-- ---- what it leaves of the work folder
+
+module _ (how : How) (vault : OpenedVault) (work : Path) (path : plain.Path) (item : NewItem) (ending : Ending) (drawn : List ℕ) (u w : Option Told) (result : Result (Unit {0}) PutFault)
+    (makes : MakesAt how vault work path item ending drawn u w result) where
+  -- all but the stage and the vault stays
+  making_stays : StaysIn (is_apart work vault.root) u w
+  making_stays = elim (base_or_child path) [
+    | inl is ↦ stays_nowhere (is_apart work vault.root) u w (makes.root is).0
+    | inr k ↦
+        from_to_more _ _ u w (λ a b is went. went_more _ (IsAsBefore (is_apart work vault.root) a.state) _ (λ s e. Unit {0}) a b (λ s h. h.others) (λ s e h. tt) went)
+        (makes.named k.0 k.1 k.2).makes.moments
+  ]
+
+  module _ (apart : overlap vault.root work ≡ false) where
+    pub making_leaves : (t : Option Told) → Leaves work t u → IfSeen t (λ v. EntersAs v work (Ok tt)) → Leaves work t w
+    making_leaves t first entered =
+        leaves_then work t u w first entered (stays_in_part (is_unused work) (is_apart work vault.root) u w (unused_apart work vault.root apart) making_stays)
+
+    pub making_fresh : ((a : Told) → u ≡ Some a → IsSound a.state) → IfSeen u (λ v. IsFresh v work) → OnOk result (IfSeen w (λ v. IsFresh v work))
+    making_fresh sound fresh = elim (base_or_child path) [
+      | inl is ↦ unmade result (subst (λ told. IfSeen told (λ v. IsFresh v work)) (sym (makes.root is).0) fresh)
+      | inr k ↦ by result (makes.named k.0 k.1 k.2).makes.ready
+    ]
+      where
+        unmade : (r : Result (Unit {0}) PutFault) → IfSeen w (λ v. IsFresh v work) → OnOk r (IfSeen w (λ v. IsFresh v work))
+        unmade (Ok done) still = still
+        unmade (Err fault) still = tt
+
+        by : (r : Result (Unit {0}) PutFault) → OnOk r (IfSeen w (λ v. IsReady v work)) → OnOk r (IfSeen w (λ v. IsFresh v work))
+        by (Ok done) ready = fresh_then work vault.root apart u w sound making_stays fresh ready
+        by (Err fault) ready = tt
+
 -- all tests pass of what is seen at first
 pub site_gives : (change : Change) (v : View) (answer : Answer) (next : Vault → Type 0) (vault : Vault) → Opens v change.target.vault change.target.pass vault → EntersAs v change.work (Ok tt) → next vault → OfSite change v answer next
 site_gives change v answer next vault opens entered holds =
@@ -181,10 +217,11 @@ site_gives change v answer next vault opens entered holds =
 
 module _ (is_own : Answer → Bool) (change : Change) (Makes : Vault → Type 0) where
   pub vault_changed : (answer : Answer) (before after : World) (vault : Vault) → overlap change.target.vault change.work ≡ false → IfSeen before.told (λ v. Opens v change.target.vault change.target.pass vault)
-      → IfSeen before.told (λ v. EntersAs v change.work (Ok tt)) → IsTrue (is_own answer) → Makes vault → Keeps before.taken after.taken → ChangesVault is_own change Makes answer before after
-  vault_changed answer before after vault apart opens entered own makes unwritten =
+      → IfSeen before.told (λ v. EntersAs v change.work (Ok tt)) → IsTrue (is_own answer) → Makes vault → Leaves change.work before.told after.told → Keeps before.taken after.taken → ChangesVault is_own change Makes answer before after
+  vault_changed answer before after vault apart opens entered own makes leaves unwritten =
       made_beside is_of_beginning change.target.vault change.work (λ v. OfSite change v answer Makes) (ChangesThere is_own change Makes answer before) answer before after apart unwritten (record {
         cause = λ v seen. inr (inr (site_gives change v answer Makes vault (opens v seen) (entered v seen) makes));
+        leaves = leaves;
         comes = inr (record { vault = vault; opens = opens; own = own; makes = makes });
       })
 
@@ -192,11 +229,11 @@ module _ (is_own : Answer → Bool) (change : Change) (Makes : Vault → Type 0)
   pub vault_unchanged : (answer : Answer) (w : World) (told : Option Told)
       → (overlap change.target.vault change.work ≡ true → ((answer ≡ Overlap change.target.vault change.work) ⊎ (answer ≡ OutOfMemory)) × (told ≡ w.told))
       → (overlap change.target.vault change.work ≡ false → IfSeen w.told (λ v. RefusesSite change v answer)) → (overlap change.target.vault change.work ≡ false → IsTrue (is_of_beginning answer))
-      → ChangesWork change.work w.told told → ChangesVault is_own change Makes answer w (record w { told = told })
-  vault_unchanged answer w told overlapping refuses own begins =
+      → ChangesWork change.work w.told told → Leaves change.work w.told told → ChangesVault is_own change Makes answer w (record w { told = told })
+  vault_unchanged answer w told overlapping refuses own begins leaves =
       ended_before is_of_beginning change.target.vault change.work (λ v. OfSite change v answer Makes) (ChangesThere is_own change Makes answer w) answer w told overlapping
       (λ apart v seen. unless_then (OfSite change v answer (λ vault. ⊥)) (OfSite change v answer Makes) answer (site_then change v answer (λ vault. ⊥) Makes (λ vault none. absurd none)) (refuses apart v seen))
-      own begins
+      own begins leaves
 
 -- ---- a directory
 
@@ -214,10 +251,11 @@ module _ (change : Change) where
 
   pub directory_made : Outside → Alike → (vault : OpenedVault) (work : Path) (answer : Answer) (result : Result (Unit {0}) PutFault) (u : Option Told) (before after : World)
       → ((a : Told) → before.told ≡ Some a → IsSound a.state) → overlap change.target.vault change.work ≡ false → vault.root ≡ change.target.vault → work ≡ change.work → ChangesWork change.work before.told u
+      → ((a : Told) → u ≡ Some a → IsSound a.state) → Leaves change.work before.told u → IfSeen u (λ v. IsFresh v change.work)
       → IfSeen before.told (λ v. Opens v change.target.vault change.target.pass vault.vault) → IfSeen before.told (λ v. EntersAs v change.work (Ok tt))
       → IfErr result (λ fault. IsDirectoryFault fault) → answer ≡ answer_to_making result → MakesDirectory vault work change.target.path before.random after.random u after.told result
       → Keeps before.left after.left → Keeps before.taken after.taken → MakesDirectoryIn change answer before after
-  directory_made outside alike vault work answer result u before after sound apart is_root is_work begins opens entered fault is makes untouched unwritten =
+  directory_made outside alike vault work answer result u before after sound apart is_root is_work begins sound_then leaves fresh opens entered fault is makes untouched unwritten =
       let there : OpenedVault = record { root = change.target.vault; vault = vault.vault } in
       let at_root : MakesAt New there work change.target.path NewDirectory Whole makes.drawn u after.told result =
       subst (λ root. MakesAt New (record { root = root; vault = vault.vault }) work change.target.path NewDirectory Whole makes.drawn u after.told result) is_root makes.makes in
@@ -229,7 +267,9 @@ module _ (change : Change) where
         drawn = makes.drawn;
         were_drawn = makes.were_drawn;
         makes = item_made outside alike New there change.work change.target.path NewDirectory Whole makes.drawn before.told u after.told result sound apart begins at_work;
+        fresh = making_fresh New there change.work change.target.path NewDirectory Whole makes.drawn u after.told result at_work apart sound_then fresh;
       } in record {
-        changes = vault_changed is_of_directory change (MakesIt answer before after) answer before after vault.vault apart opens entered (subst (λ a. IsTrue (is_of_directory a)) (sym is) (own_fault result fault)) made unwritten;
+        changes = vault_changed is_of_directory change (MakesIt answer before after) answer before after vault.vault apart opens entered (subst (λ a. IsTrue (is_of_directory a)) (sym is) (own_fault result fault)) made
+            (making_leaves New there change.work change.target.path NewDirectory Whole makes.drawn u after.told result at_work apart before.told leaves entered) unwritten;
         untouched = untouched;
       }

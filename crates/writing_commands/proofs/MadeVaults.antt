@@ -12,12 +12,13 @@ use Rattle.folder_spec.specs.State.{State, IsSound}
 use Rattle.folder_spec.specs.Edit.{Edit, HasPublishedIn, HasSettledIn}
 use Rattle.folder_spec.specs.Event.{Event, Told, FromTo}
 use Rattle.folder_spec.specs.Moments.{Went, Moments}
-use Rattle.folder_spec.specs.Region.{Spares, apart_from, apart_from_both}
+use Rattle.folder_spec.specs.Region.{IsAsBefore, Spares, apart_from, apart_from_both}
 use Rattle.folder_spec.specs.View.{View, AgreeIn}
 use Rattle.folder_spec.specs.Seen.{IfSeen, IsSeen}
 use Rattle.folder_spec.proofs.Edits.{publishes_nothing, publishes_joined, published_joined, publishes_in_part, published_in_part, unchanged_present}
 use Rattle.folder_spec.proofs.Moments.{went_on, went_more, went_to}
 use Rattle.folder_spec.proofs.Paths.{below-parent}
+use Rattle.folder_spec.proofs.Tellings.{from_to_more}
 use Rattle.port_model.specs.Draws.{ByteStream}
 use Rattle.command_words.specs.declared.values.Format.{Format}
 use Rattle.command_words.specs.declared.values.Format.TheVariants.{Gocryptfs, Cryptomator, CryptomatorCtrMac}
@@ -25,13 +26,15 @@ use Rattle.vault_spec.specs.NewVault.{go_files, cm_files, new_go_vault, new_cm_v
 use Rattle.vault_spec.specs.Vault.{Vault}
 use Rattle.vault_write.specs.Founding.{Founds, FoundsCm, IsFounding, IsNewVault, founding, new_go, new_cm, texts, vault_edit}
 use Rattle.item_making.specs.Making.{StagesOrPlaces, is_apart, is_unstaged}
-use Rattle.work_folder.specs.Entering.{EntersAs}
+use Rattle.work_folder.specs.Entering.{EntersAs, IsFresh, IsReady}
 use Rattle.open_for_changing.proofs.Beginnings.{Begins, apart_of_both, apart_of_unstaged, as_before_in, as_before_then, begun_then, seen_after, unstaged}
 use Rattle.open_for_changing.proofs.Endings.{ended_before, ends_before, made_beside}
+use Rattle.open_for_changing.proofs.Leavings.{fresh_then, leaves_all, leaves_then, stays_in_part, stays_nowhere, unused_apart}
 use Rattle.open_for_reading.proofs.Overlaps.{apart_by, none_drawn}
 use Rattle.open_for_reading.proofs.Refusals.{pass_gives, pass_then}
 use Rattle.open_for_changing.proofs.Sites.{begins_nowhere, work_then}
 use Rattle.open_for_changing.specs.Beginning.{IsBeginning, ChangesWork, MakesApart}
+use Rattle.open_for_changing.specs.Staying.{Leaves, StaysIn, is_unused}
 use Rattle.open_for_reading.specs.Tests.{is_of_readying}
 use Rattle.open_for_reading.specs.Places.{OfDirectory, OfMissing, overlap}
 use Rattle.writing_commands.specs.Faults.{answer_to_making}
@@ -109,12 +112,24 @@ module _ (work at : Path) (made : View) (files : List (Part × List ℕ)) where
         (λ a b c sound_at first second. settled_then work (vault_edit at made) (texts files) a.state sound_at b.state
         (went_to (IsBeginning work a.state) (λ s e. Spares (apart_from work) e.call) a b first) c.state second) begins settled
 
+-- all but the stage and the vault stays
+founding_stays : {E : Type 0} (work at : Path) (made : View) (files : List (Part × List ℕ)) (u w : Option Told) (result : Result (Unit {0}) E) → Founds work at made files u w result → StaysIn (is_apart work at) u w
+founding_stays work at made files u w result founds =
+    from_to_more _ _ u w (λ a b is went. went_more _ (IsAsBefore (is_apart work at) a.state) _ (λ s e. Unit {0}) a b (λ s h. h.others) (λ s e h. tt) went) founds.moments
+
+-- and after Ok nothing but an empty stage is left in the work folder
+founding_fresh : {E : Type 0} (work at : Path) (made : View) (files : List (Part × List ℕ)) (u w : Option Told) (result : Result (Unit {0}) E) → overlap at work ≡ false → ((a : Told) → u ≡ Some a → IsSound a.state)
+    → IfSeen u (λ v. IsFresh v work) → Founds work at made files u w result → OnOk result (IfSeen w (λ v. IsFresh v work))
+founding_fresh work at made files u w (Err fault) apart sound fresh founds = tt
+founding_fresh work at made files u w (Ok done) apart sound fresh founds = fresh_then work at apart u w sound (founding_stays work at made files u w (Ok done) founds) fresh founds.ready
+
 some_vault : {E : Type 0} (result : Result (Unit {0}) E) (made : View) (phrase : List ℕ) (vault : Vault) → OnOk result (IsNewVault made phrase vault) → OnOk result ((v : Vault) × IsNewVault made phrase v)
 some_vault (Ok done) made phrase vault is = (vault, is)
 some_vault (Err fault) made phrase vault is = tt
 
 module _ (new : NewVault) (phrase : List ℕ) (answer : Answer) (t u w : Option Told) (stream stream' : Option ByteStream) (sound : (a : Told) → t ≡ Some a → IsSound a.state)
-    (begins : ChangesWork new.work t u) (reads : IfSeen t (λ v. IsPhrase (v new.pass) phrase)) where
+    (begins : ChangesWork new.work t u) (reads : IfSeen t (λ v. IsPhrase (v new.pass) phrase)) (apart : overlap new.vault new.work ≡ false) (sound_then : (a : Told) → u ≡ Some a → IsSound a.state)
+    (fresh : IfSeen u (λ v. IsFresh v new.work)) where
   from_parts : (made : View) (files : List (Part × List ℕ)) (result : Result (Unit {0}) PutFault) → answer ≡ answer_to_making result → DrawsVault new.format phrase made files stream stream' result
       → Founds new.work new.vault made files u w result → OnOk result ((vault : Vault) × IsNewVault made phrase vault) → FoundsVault new answer t w stream stream'
   from_parts made files result answers drew founds opens = record {
@@ -128,6 +143,7 @@ module _ (new : NewVault) (phrase : List ℕ) (answer : Answer) (t u w : Option 
     moments = moments_of new.work new.vault made files t u w sound begins founds.moments;
     settled = settled_of new.work new.vault made files t u w sound begins result founds.done;
     vault = opens;
+    fresh = founding_fresh new.work new.vault made files u w result apart sound_then fresh founds;
   }
 
   of_cryptomator : (combo : Combo) (kind : Format) → new.format ≡ kind
@@ -155,6 +171,20 @@ module _ (new : NewVault) (phrase : List ℕ) (answer : Answer) (t u w : Option 
 
   pub vault_made : FoundsAs new phrase answer u w stream stream' → FoundsVault new answer t w stream stream'
   vault_made founds = of_kind new.format refl founds.result founds.is founds.founds
+
+-- what isn't used of the work folder stays
+kind_stays : (kind : Format) (work at : Path) (phrase : List ℕ) (u w : Option Told) (stream stream' : Option ByteStream) (result : Result (Unit {0}) PutFault) → FoundsNew kind work at phrase stream stream' u w result
+    → StaysIn (is_apart work at) u w
+kind_stays Gocryptfs work at phrase u w stream stream' result founds = founding_stays work at _ _ u w result founds.founds
+kind_stays Cryptomator work at phrase u w stream stream' result founds = founding_stays work at _ _ u w result founds.founds
+kind_stays CryptomatorCtrMac work at phrase u w stream stream' result founds = founding_stays work at _ _ u w result founds.founds
+
+place_stays : (new : NewVault) (phrase : List ℕ) (answer : Answer) (u w : Option Told) (stream stream' : Option ByteStream) → overlap new.vault new.work ≡ false
+    → RefusesPlace answer u w stream stream' ⊎ FoundsAs new phrase answer u w stream stream' → StaysIn (is_unused new.work) u w
+place_stays new phrase answer u w stream stream' apart (inl refuses) = stays_nowhere (is_unused new.work) u w refuses.unchanged
+place_stays new phrase answer u w stream stream' apart (inr founds) =
+    stays_in_part (is_unused new.work) (is_apart new.work new.vault) u w (unused_apart new.work new.vault apart)
+    (kind_stays new.format new.work new.vault phrase u w stream stream' founds.result founds.founds)
 
 -- ---- why
 
@@ -203,23 +233,26 @@ module _ (new : NewVault) where
   Apart answer before after = MakesApart is_of_readying new.work (Tests answer) (IsFounded answer before after) answer before after
 
   pub made_apart : (phrase : List ℕ) (answer : Answer) (u : Option Told) (before after : World) → ((a : Told) → before.told ≡ Some a → IsSound a.state) → overlap new.vault new.work ≡ false
-      → ChangesWork new.work before.told u → IfSeen before.told (λ v. IsPhrase (v new.pass) phrase) → IfSeen before.told (λ v. EntersAs v new.work (Ok tt))
+      → ChangesWork new.work before.told u → ((a : Told) → u ≡ Some a → IsSound a.state) → Leaves new.work before.told u → IfSeen u (λ v. IsFresh v new.work)
+      → IfSeen before.told (λ v. IsPhrase (v new.pass) phrase) → IfSeen before.told (λ v. EntersAs v new.work (Ok tt))
       → IfSeen u (λ v. Unless answer (OfPlace new v answer)) → RefusesPlace answer u after.told before.random after.random ⊎ FoundsAs new phrase answer u after.told before.random after.random
       → Keeps before.left after.left → Apart answer before after
-  made_apart phrase answer u before after sound apart begins reads entered cause made untouched = record {
+  made_apart phrase answer u before after sound apart begins sound_then leaves fresh reads entered cause made untouched = record {
     cause = λ v is.
         let later : (x : View) × IsSeen u x × AgreeIn (apart_from new.work) x v = seen_after new.work before.told u begins v is in
         place_caused new v later.0 answer phrase apart later.2 (reads v is) (entered v is) (cause later.0 later.1);
+    leaves = leaves_then new.work before.told u after.told leaves entered (place_stays new phrase answer u after.told before.random after.random apart made);
     comes = elim made [
       | inl refuses ↦ inl (ends_before is_of_readying new.work answer before after refuses.own (subst (ChangesWork new.work before.told) (sym refuses.unchanged) begins) refuses.undrawn untouched)
-      | inr founds ↦ inr (vault_made new phrase answer before.told u after.told before.random after.random sound begins reads founds)
+      | inr founds ↦ inr (vault_made new phrase answer before.told u after.told before.random after.random sound begins reads apart sound_then fresh founds)
     ];
   }
 
-  pub not_entered : (phrase : List ℕ) (answer : Answer) (w : World) (told : Option Told) → IsTrue (is_of_readying answer) → ChangesWork new.work w.told told → IfSeen w.told (λ v. IsPhrase (v new.pass) phrase)
+  pub not_entered : (phrase : List ℕ) (answer : Answer) (w : World) (told : Option Told) → IsTrue (is_of_readying answer) → ChangesWork new.work w.told told → Leaves new.work w.told told → IfSeen w.told (λ v. IsPhrase (v new.pass) phrase)
       → IfSeen w.told (λ v. RefusesWork v new.work answer) → Apart answer w (record w { told = told })
-  not_entered phrase answer w told own begins reads refuses = record {
+  not_entered phrase answer w told own begins leaves reads refuses = record {
     cause = λ v is. work_caused new v answer phrase (reads v is) (refuses v is);
+    leaves = leaves;
     comes = inl (ends_before is_of_readying new.work answer w (record w { told = told }) own begins (none_drawn w.random) (Keeps-refl w.left));
   }
 
@@ -232,6 +265,6 @@ module _ (new : NewVault) where
       → MakesVault new answer w (record w { told = told })
   not_read answer w told same overlapping refuses own = record {
     makes = ended_before is_of_readying new.vault new.work (Tests answer) (IsFounded answer w (record w { told = told })) answer w told (λ is. (overlapping is, same))
-        (λ apart v seen. pass_caused new v answer (refuses apart v seen)) own (begins_nowhere new.work w.told told same);
+        (λ apart v seen. pass_caused new v answer (refuses apart v seen)) own (begins_nowhere new.work w.told told same) (leaves_all new.work w.told told same);
     untouched = Keeps-refl w.left;
   }

@@ -19,9 +19,10 @@ use Rattle.vault_spec.specs.Making.{NewFile}
 use Rattle.vault_spec.specs.Vault.{Vault}
 use Rattle.vault_write.specs.Calls.{InPlace, MakesAt, MakesFile, TakesContent, Writing}
 use Rattle.vault_write.specs.Faults.{IsFileFault}
-use Rattle.work_folder.specs.Entering.{EntersAs}
+use Rattle.work_folder.specs.Entering.{EntersAs, IsFresh}
 use Rattle.open_for_changing.proofs.Beginnings.{Alike, Outside}
-use Rattle.writing_commands.proofs.MadeItems.{item_made, vault_changed}
+use Rattle.open_for_changing.specs.Staying.{Leaves}
+use Rattle.writing_commands.proofs.MadeItems.{item_made, making_fresh, making_leaves, vault_changed}
 use Rattle.writing_commands.proofs.Makings.{all_done}
 use Rattle.open_for_changing.specs.Beginning.{ChangesWork}
 use Rattle.writing_commands.specs.Faults.{answer_to_making}
@@ -112,11 +113,12 @@ module _ (change : Change) where
 
   pub file_made : Outside → Alike → (vault : OpenedVault) (work : Path) (answer : Answer) (result : Result (Unit {0}) PutFault) (u : Option Told) (before after : World) (room room' : ℕ) (passed passed' : Bool)
       → ((a : Told) → before.told ≡ Some a → IsSound a.state) → overlap change.target.vault change.work ≡ false → vault.root ≡ change.target.vault → work ≡ change.work → ChangesWork change.work before.told u
+      → ((a : Told) → u ≡ Some a → IsSound a.state) → Leaves change.work before.told u → IfSeen u (λ v. IsFresh v change.work)
       → IfSeen before.told (λ v. Opens v change.target.vault change.target.pass vault.vault) → IfSeen before.told (λ v. EntersAs v change.work (Ok tt))
       → answer ≡ answer_to_making result → room ≡ content_limit → passed ≡ false
       → MakesFile InPlace vault work change.target.path (coming_from room passed before.left) (coming_from room' passed' after.left) before.random after.random u after.told result
       → IfErr result (λ fault. IsFileFault None fault) → Keeps before.taken after.taken → StoresFile change answer before after
-  file_made outside alike vault work answer result u before after room room' passed passed' sound apart is_root is_work begins opens entered is fresh unpassed makes fits unwritten =
+  file_made outside alike vault work answer result u before after room room' passed passed' sound apart is_root is_work begins sound_then leaves fresh opens entered is full unpassed makes fits unwritten =
       let writing : Writing = makes.writing in
       let there : OpenedVault = record { root = change.target.vault; vault = vault.vault } in
       let at_root : MakesAt InPlace there work change.target.path (NewFile writing.content) writing.ending writing.drawn u after.told result =
@@ -129,11 +131,12 @@ module _ (change : Change) where
         drawn = writing.drawn;
         were_drawn = makes.takes.were_drawn;
         makes = item_made outside alike InPlace there change.work change.target.path (NewFile writing.content) writing.ending writing.drawn before.told u after.told result sound apart begins at_work;
+        fresh = making_fresh InPlace there change.work change.target.path (NewFile writing.content) writing.ending writing.drawn u after.told result at_work apart sound_then fresh;
       } in
       vault_changed is_of_file change (StoresIt answer before after) answer before after vault.vault apart opens entered (subst (λ a. IsTrue (is_of_file a)) (sym is) (own result)) (record {
         content = writing.content;
         ending = writing.ending;
         makes = made;
-        takes = input_taken _ writing answer room room' passed passed' before.left after.left before.random after.random result fresh unpassed is makes.takes;
+        takes = input_taken _ writing answer room room' passed passed' before.left after.left before.random after.random result full unpassed is makes.takes;
         fits = blamed_as_input result fits;
-      }) unwritten
+      }) (making_leaves InPlace there change.work change.target.path (NewFile writing.content) writing.ending writing.drawn u after.told result at_work apart before.told leaves entered) unwritten

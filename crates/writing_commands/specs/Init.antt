@@ -21,6 +21,7 @@ use Rattle.command_words.specs.declared.values.Format.{Format}
 use Rattle.command_words.specs.declared.values.Format.TheVariants.{Gocryptfs, Cryptomator, CryptomatorCtrMac}
 use Rattle.vault_spec.specs.NewVault.{go_files, cm_files, new_go_vault, new_cm_vault}
 use Rattle.vault_spec.specs.Vault.{Vault}
+use Rattle.work_folder.specs.Entering.{IsFresh}
 use Rattle.vault_write.specs.Founding.{FoundsGo, FoundsCm, IsGoDraw, IsCmDraw, GoDrew, CmDrew, IsNewVault, founding, texts, vault_edit}
 use Rattle.item_making.specs.Making.{StagesOrPlaces}
 use Rattle.open_for_reading.specs.Tests.{is_of_readying}
@@ -74,7 +75,8 @@ pub record IsMakingVault (work : Path) (vault : Edit) (files : List (List ℕ)) 
   pub others : IsAsBefore (apart_from_both work vault.at) s0 s
   pub fronts : HoldFronts files s0 s
 
--- The vault is made. After Ok it stands there for good, the passphrase opens it, and it has no items.
+-- The vault is made. After Ok it stands there for good, the passphrase opens it, it has
+-- no items, and in the work folder stands nothing but an empty stage.
 pub record FoundsVault (new : NewVault) (answer : Answer) (told told' : Option Told) (stream stream' : Option ByteStream) : Type 0 where
   pub phrase : List ℕ
   pub reads : IfSeen told (λ v. IsPhrase (v new.pass) phrase)
@@ -87,6 +89,7 @@ pub record FoundsVault (new : NewVault) (answer : Answer) (told told' : Option T
       (λ s0 s e. Spares (apart_from new.work) e.call ⊎ StagesOrPlaces new.work (founding new.vault made files) s e.call) told told'
   pub settled : OnOk result (FromTo (λ a b. HasSettledIn (apart_from new.work) (vault_edit new.vault made ∷ []) a.state b.state) told told')
   pub vault : OnOk result ((vault : Vault) × IsNewVault made phrase vault)
+  pub fresh : OnOk result (IfSeen told' (λ v. IsFresh v new.work))
 
 -- `init`, which takes nothing of the input and writes nothing
 pub record MakesVault (new : NewVault) (answer : Answer) (before after : World) : Type 0 where

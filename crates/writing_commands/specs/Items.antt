@@ -19,6 +19,7 @@ use Rattle.port_model.specs.Draws.{ByteStream, Draws}
 use Rattle.vault_spec.specs.Making.{NewItem, draws}
 use Rattle.vault_spec.specs.Vault.{Vault}
 use Rattle.vault_spec.specs.Opened.{OpenedVault}
+use Rattle.work_folder.specs.Entering.{IsFresh}
 use Rattle.vault_write.specs.Calls.{How, IsOfMaking, IsUnpublished, making_by, AnswersBy, AnswersRoot}
 use Rattle.item_making.specs.Making.{Placing, Making, format, path_of, StagesOrPlaces}
 use Rattle.item_making.specs.Placing.{ShowsOne, EndsAs, making_at}
@@ -78,13 +79,14 @@ pub record MakesItem (how : How) (vault : OpenedVault) (work : Path) (path : pla
       → MakesNamed how (record { vault = vault; work = work; front = front; name = name; item = item }) ending drawn told told' result
   pub root : path ≡ [] → ChangesOnlyWork work told told' × (drawn ≡ []) × AnswersRoot how vault.root result
 
--- A command makes an item in this vault, and its answer is that.
+-- A command makes an item in this vault, and its answer is that. After Ok nothing but an empty stage stands in the work folder.
 pub record MakesIn (how : How) (change : Change) (item : NewItem) (ending : Ending) (vault : Vault) (answer : Answer) (told told' : Option Told) (stream stream' : Option ByteStream) : Type 0 where
   pub result : Result (Unit {0}) PutFault
   pub is : answer ≡ answer_to_making result
   pub drawn : List ℕ
   pub were_drawn : Draws stream stream' drawn
   pub makes : MakesItem how (record { root = change.target.vault; vault = vault }) change.work change.target.path item ending drawn told told' result
+  pub fresh : OnOk result (IfSeen told' (λ v. IsFresh v change.work))
 
 -- the vault that is opened is changed so, with an answer of its own
 pub record ChangesThere (is_own : Answer → Bool) (change : Change) (Makes : Vault → Type 0) (answer : Answer) (before : World) : Type 0 where

@@ -7,6 +7,7 @@ use Rattle.open_for_reading.specs.Tests.{is_of_beginning}
 use Rattle.open_for_changing.specs.Refusing.{RefusesSite}
 use Rattle.open_for_changing.proofs.Beginnings.{same_under, seen_after}
 use Rattle.open_for_changing.proofs.Sites.{begins_nowhere, readied_begins, site_opens, site_refused, site_unread, site_unready}
+use Rattle.open_for_changing.proofs.Leavings.{leaves_all}
 use Rattle.open_for_changing.proofs.beginning.begin.Goals as goal
 
 pub returns-in_err-phrase-clause-moments : goal.returns-in_err-phrase-clause-moments
@@ -61,3 +62,7 @@ returns-clause-opened g c = λ v is.
     site_opens change v after.0 c.as_slice.result.now c.in_ok-vault.vault.vault
     (same_under c.roots_show_their_own.ensures.outside c.roots_show_their_own.ensures.alike change.target.vault change.work c.in_ok-phrase.ensures.apart v after.0 after.2)
     (subst (IsPhrase (v change.target.pass)) (sym c.as_slice.ensures) (c.in_ok-phrase.ensures.phrase v is)) (c.in_ok-vault.ensures.opened after.0 after.1)
+
+pub returns-in_err-phrase-clause-leaves : goal.returns-in_err-phrase-clause-leaves
+returns-in_err-phrase-clause-leaves g c =
+    leaves_all c.args.change.now.work (g.F.Folder.told c.args.folder.now) (g.F.Folder.told c.read_apart.new.folder) c.in_err-phrase.ensures.told

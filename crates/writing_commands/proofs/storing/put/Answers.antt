@@ -28,6 +28,7 @@ returns-in-Ok-clause-stores g c taken =
     file_made change c.roots_show_their_own.ensures.outside c.roots_show_their_own.ensures.alike c.in-Ok.site.vault c.in-Ok.site.work answer c.put.result
     (g.F.Folder.told c.begin.new.folder) before after content.room.bytes content'.room.bytes content.room.passed content'.room.passed
     (g.met.F.Folder.sound c.args.folder.now) c.in-Ok.ensures.apart c.in-Ok.ensures.root c.in-Ok.ensures.work c.in-Ok.ensures.moments
+    (g.met.F.Folder.sound c.begin.new.folder) c.in-Ok.ensures.leaves c.in-Ok.ensures.fresh
     c.in-Ok.ensures.opened c.in-Ok.ensures.entered c.answer_to_making.ensures c.new-content.ensures.room c.new-content.ensures.passed c.put.ensures.made c.put.ensures.fault (Keeps-refl taken) in
     -- the input that the content kept is the one that is given back
     let back : c.input-1.given.0 ≡ content'.source.now = c.input-1.given.1 (sym (c.put.ensures.lender ∙ c.new-content.ensures.lender)) in
@@ -55,7 +56,7 @@ returns-in-Err-clause-stores g c taken =
     let before : World = record { told = g.F.Folder.told c.args.folder.now; left = g.I.Source.left c.args.input.now; ended = g.I.Source.ended c.args.input.now; taken = taken; random = g.R.Randoms.left c.args.random.now } in
     let told = g.F.Folder.told c.begin.new.folder in
     vault_unchanged is_of_file c.args.change.now (StoresIt c.args.change.now c.in-Err.answer before (record before { told = told })) c.in-Err.answer before told
-    c.in-Err.ensures.overlapping c.in-Err.ensures.refused c.in-Err.ensures.own c.in-Err.ensures.moments
+    c.in-Err.ensures.overlapping c.in-Err.ensures.refused c.in-Err.ensures.own c.in-Err.ensures.moments c.in-Err.ensures.leaves
 
 pub returns-in-Ok-clause-row : goal.returns-in-Ok-clause-row
 returns-in-Ok-clause-row g c = put_row _ _ _ _ (returns-in-Ok-clause-stores g c None)

@@ -22,7 +22,7 @@ use Rattle.port_model.specs.Draws.{ByteStream}
 use Rattle.vault_names.specs.Cryptomator.{cm_folder_of}
 use Rattle.vault_spec.specs.NewVault.{go_files, cm_files, new_go_vault, new_cm_vault}
 use Rattle.vault_write.specs.declared.drawing.GoParts.{GoParts}
-use Rattle.vault_write.specs.Founding.{MayFound, IsNewVault, Founds, FoundsGo, FoundsCm, GoDrew, CmDrew, DrewGo, DrawsGo, DrawsCm, cm_two, go_two, new_cm, new_go, with_home}
+use Rattle.vault_write.specs.Founding.{MayFound, IsNewVault, Founds, FoundsGo, FoundsCm, MakesDrawn, GoDrew, CmDrew, DrewGo, DrawsGo, DrawsCm, cm_two, go_two, new_cm, new_go, with_home}
 use Rattle.vault_write.proofs.Founded.{founds_none}
 use Rattle.vault_write.proofs.NewVaults.{GoEmpty, GoTidy, CmEmptyAndTidy, go_is_new, cm_is_new}
 
@@ -41,6 +41,18 @@ not_failed fault kinds same = elim kinds as (λ _. ⊥) [
   | inl e ↦ cc
   | inr e ↦ cc
 ]
+
+-- nothing was changed, whatever failed
+unchanged : (t : Option Told) (fault : PutFault) → MakesDrawn (t ≡ t) (Err fault)
+unchanged t puts.Random = refl
+unchanged t puts.ZeroRandom = refl
+unchanged t fault = tt
+
+-- a folder fails only once all is drawn
+made_drawn : (Unmade : Type 0) (fault : FolderFault) → MakesDrawn Unmade (Err (of_folder fault))
+made_drawn Unmade folder.Failed = tt
+made_drawn Unmade folder.Refused = tt
+made_drawn Unmade folder.NoMemory = tt
 
 -- ---- gocryptfs
 
@@ -63,19 +75,19 @@ go_all d key drawn folder.NoMemory h = h
 
 module _ (work at : Path) (pass : List ℕ) (cost : Cost) (s s' : Option ByteStream) (t : Option Told) (sound : (a : Told) → t ≡ Some a → IsSound a.state) (may : MayFound t work at) where
   -- under what was drawn
-  go_founds : {r : Result GoParts PutFault} (h : DrawsGo s s' r) (u : Option Told) (result : Result (Unit {0}) PutFault) → GoDrew h.draw h.key h.drawn result
+  go_founds : {r : Result GoParts PutFault} (h : DrawsGo s s' r) (u : Option Told) (result : Result (Unit {0}) PutFault) → GoDrew h.draw h.key h.drawn result → MakesDrawn (u ≡ t) result
       → Founds work at (new_go_vault pass cost h.draw h.key) (go_files pass cost h.draw h.key) t u result → OnOk result (IsNewVault (new_go_vault pass cost h.draw h.key) pass (new_go h.draw))
       → FoundsGo work at pass cost s s' t u result
-  go_founds h u result drew founds vault =
-      record { draw = h.draw; key = h.key; drawn = h.drawn; sizes = h.sizes; were_drawn = h.were_drawn; drew = drew; founds = founds; vault = vault }
+  go_founds h u result drew drawn_first founds vault =
+      record { draw = h.draw; key = h.key; drawn = h.drawn; sizes = h.sizes; were_drawn = h.were_drawn; drew = drew; made_drawn = drawn_first; founds = founds; vault = vault }
 
   pub go_undrawn : (fault : PutFault) → DrawsGo s s' (Err fault) → FoundsGo work at pass cost s s' t t (Err fault)
   go_undrawn fault h =
-      go_founds h t (Err fault) (go_drew h.draw h.key h.drawn fault h.drew) (founds_none fault refl sound may) tt
+      go_founds h t (Err fault) (go_drew h.draw h.key h.drawn fault h.drew) (unchanged t fault) (founds_none fault refl sound may) tt
 
   module _ (parts : GoParts) (h : DrawsGo s s' (Ok parts)) where
     pub go_unmade : FoundsGo work at pass cost s s' t t (Err puts.NoMemory)
-    go_unmade = go_founds h t (Err puts.NoMemory) h.drew (founds_none puts.NoMemory refl sound may) tt
+    go_unmade = go_founds h t (Err puts.NoMemory) h.drew tt (founds_none puts.NoMemory refl sound may) tt
 
     module _ (conf : List ℕ) (is_conf : conf ≡ conf_text (made_conf pass cost parts.draw)) (u : Option Told) where
       at_these : (result : Result (Unit {0}) FolderFault) → Founds work at (folder_view (go_two conf parts.key)) (go_two conf parts.key) t u result
@@ -89,13 +101,13 @@ module _ (work at : Path) (pass : List ℕ) (cost : Cost) (s s' : Option ByteStr
       pub go_failed : (fault : FolderFault) → Founds work at (folder_view (go_two conf parts.key)) (go_two conf parts.key) t u (Err fault)
           → FoundsGo work at pass cost s s' t u (Err (of_folder fault))
       go_failed fault f =
-          go_founds h u (Err (of_folder fault)) (go_all h.draw h.key h.drawn fault h.drew)
+          go_founds h u (Err (of_folder fault)) (go_all h.draw h.key h.drawn fault h.drew) (made_drawn (u ≡ t) fault)
           (as_fault work at (new_go_vault pass cost h.draw h.key) (go_files pass cost h.draw h.key) t u fault (of_folder fault) (at_these (Err fault) f)) tt
 
       pub go_done : go.MadeTextReturns → GoEmpty → GoTidy → IsCost cost → Founds {E = FolderFault} work at (folder_view (go_two conf parts.key)) (go_two conf parts.key) t u (Ok tt)
           → FoundsGo work at pass cost s s' t u (Ok tt)
       go_done returns empty tidy is_cost f =
-          go_founds h u (Ok tt) h.drew (as_done work at (new_go_vault pass cost h.draw h.key) (go_files pass cost h.draw h.key) t u (at_these (Ok tt) f))
+          go_founds h u (Ok tt) h.drew tt (as_done work at (new_go_vault pass cost h.draw h.key) (go_files pass cost h.draw h.key) t u (at_these (Ok tt) f))
           (go_is_new returns empty tidy pass cost h.draw h.key is_cost h.sizes h.drew.root)
 
 -- ---- Cryptomator
@@ -133,23 +145,23 @@ module _ (work at : Path) (t u : Option Told) (result : Result (Unit {0}) Folder
       (subst (λ m. Made m vault home) is_master f))
 
 module _ (work at : Path) (pass : List ℕ) (cost : Cost) (combo : Combo) (s s' : Option ByteStream) (t : Option Told) (sound : (a : Told) → t ≡ Some a → IsSound a.state) (may : MayFound t work at) where
-  cm_founds : {r : Result CmDraw PutFault} (h : DrawsCm s s' r) (u : Option Told) (result : Result (Unit {0}) PutFault) → CmDrew h.draw h.drawn result
+  cm_founds : {r : Result CmDraw PutFault} (h : DrawsCm s s' r) (u : Option Told) (result : Result (Unit {0}) PutFault) → CmDrew h.draw h.drawn result → MakesDrawn (u ≡ t) result
       → FoundsDrawn work at pass cost combo h.draw t u result → OnOk result (IsNewVault (new_cm_vault pass cost combo h.draw) pass (new_cm combo h.draw)) → FoundsCm work at pass cost combo s s' t u result
-  cm_founds h u result drew founds vault = record { draw = h.draw; drawn = h.drawn; sizes = h.sizes; were_drawn = h.were_drawn; drew = drew; founds = founds; vault = vault }
+  cm_founds h u result drew drawn_first founds vault = record { draw = h.draw; drawn = h.drawn; sizes = h.sizes; were_drawn = h.were_drawn; drew = drew; made_drawn = drawn_first; founds = founds; vault = vault }
 
   pub cm_undrawn : (fault : PutFault) → DrawsCm s s' (Err fault) → FoundsCm work at pass cost combo s s' t t (Err fault)
   cm_undrawn fault h =
-      cm_founds h t (Err fault) (cm_drew h.draw h.drawn fault h.drew) (founds_none fault refl sound may) tt
+      cm_founds h t (Err fault) (cm_drew h.draw h.drawn fault h.drew) (unchanged t fault) (founds_none fault refl sound may) tt
 
   module _ (d : CmDraw) (h : DrawsCm s s' (Ok d)) (u : Option Told) where
     pub cm_failed : (fault : FolderFault) → FoundsDrawn {E = FolderFault} work at pass cost combo d t u (Err fault) → FoundsCm work at pass cost combo s s' t u (Err (of_folder fault))
     cm_failed fault f =
-        cm_founds h u (Err (of_folder fault)) (cm_all h.draw h.drawn fault h.drew)
+        cm_founds h u (Err (of_folder fault)) (cm_all h.draw h.drawn fault h.drew) (made_drawn (u ≡ t) fault)
         (as_fault work at (new_cm_vault pass cost combo h.draw) (cm_files pass cost combo h.draw) t u fault (of_folder fault)
         (subst (λ (e : CmDraw). FoundsDrawn {E = FolderFault} work at pass cost combo e t u (Err fault)) h.is f)) tt
 
     pub cm_done : cm.MadeFilesReturn → IsCost cost → CmEmptyAndTidy pass cost combo d → FoundsDrawn {E = FolderFault} work at pass cost combo d t u (Ok tt) → FoundsCm work at pass cost combo s s' t u (Ok tt)
     cm_done returns is_cost both f =
-        cm_founds h u (Ok tt) h.drew
+        cm_founds h u (Ok tt) h.drew tt
         (as_done work at (new_cm_vault pass cost combo h.draw) (cm_files pass cost combo h.draw) t u (subst (λ (e : CmDraw). FoundsDrawn {E = FolderFault} work at pass cost combo e t u (Ok tt)) h.is f))
         (cm_is_new returns pass cost combo h.draw is_cost h.sizes (subst (CmEmptyAndTidy pass cost combo) h.is both))

@@ -143,6 +143,12 @@ CmDrew d drawn (Err (puts.Damaged at fault)) = ⊥
 CmDrew d drawn (Err (puts.Limit limit)) = ⊥
 CmDrew d drawn (Err puts.Source) = ⊥
 
+-- What can't be drawn isn't made up: this holds where the random source failed, or gave zeros.
+abbrev pub MakesDrawn : Type 0 → Result (Unit {0}) PutFault → Type 0
+MakesDrawn Unmade (Err puts.Random) = Unmade
+MakesDrawn Unmade (Err puts.ZeroRandom) = Unmade
+MakesDrawn Unmade result = Unit {0}
+
 -- the vaults that are founded under these draws
 abbrev pub new_go : GoDraw → Vault
 new_go d = Gocryptfs (gocryptfs.keys_of d.master)
@@ -150,7 +156,8 @@ new_go d = Gocryptfs (gocryptfs.keys_of d.master)
 abbrev pub new_cm : Combo → CmDraw → Vault
 new_cm combo d = Cryptomator (record { keys = cryptomator.keys_of d; combo = combo; threshold = 220 })
 
--- A call founds a gocryptfs vault under the bytes that it draws. After Ok it is what the passphrase opens, and empty.
+-- A call founds a gocryptfs vault under the bytes that it draws, and changes nothing before all of them are there. After Ok it is what the
+-- passphrase opens, and empty.
 pub record FoundsGo (work at : Path) (pass : List ℕ) (cost : Cost) (stream stream' : Option ByteStream) (before after : Option Told) (result : Result (Unit {0}) PutFault) : Type 0 where
   pub draw : GoDraw
   pub key : List ℕ
@@ -158,6 +165,7 @@ pub record FoundsGo (work at : Path) (pass : List ℕ) (cost : Cost) (stream str
   pub sizes : IsGoDraw draw key
   pub were_drawn : Draws stream stream' drawn
   pub drew : GoDrew draw key drawn result
+  pub made_drawn : MakesDrawn (after ≡ before) result
   pub founds : Founds work at (new_go_vault pass cost draw key) (go_files pass cost draw key) before after result
   pub vault : OnOk result (IsNewVault (new_go_vault pass cost draw key) pass (new_go draw))
 
@@ -167,6 +175,7 @@ pub record FoundsCm (work at : Path) (pass : List ℕ) (cost : Cost) (combo : Co
   pub sizes : IsCmDraw draw
   pub were_drawn : Draws stream stream' drawn
   pub drew : CmDrew draw drawn result
+  pub made_drawn : MakesDrawn (after ≡ before) result
   pub founds : Founds work at (new_cm_vault pass cost combo draw) (cm_files pass cost combo draw) before after result
   pub vault : OnOk result (IsNewVault (new_cm_vault pass cost combo draw) pass (new_cm combo draw))
 

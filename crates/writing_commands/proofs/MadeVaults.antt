@@ -2,6 +2,7 @@
 use Rattle.std.proofs.Common.{◌≡◌, ◌⊎◌, ℕ, true, false, List, [], ◌∷◌, Option, Some, Result, Ok, Err, OnOk, inl, inr, refl, sym, ap, subst, arith, IsTrue}
 use Rattle.std.specs.Prelude.{is_none}
 use Rattle.item_making.specs.declared.fault.PutFault.{PutFault}
+use Rattle.item_making.specs.declared.fault.PutFault.TheVariants as puts
 use Rattle.std.specs.Io.KnownBytes.{Keeps}
 use Rattle.std.proofs.KnownBytes.{Keeps-refl}
 use Rattle.cryptomator_conf.specs.declared.conf.Combo.{Combo}
@@ -24,7 +25,7 @@ use Rattle.command_words.specs.declared.values.Format.{Format}
 use Rattle.command_words.specs.declared.values.Format.TheVariants.{Gocryptfs, Cryptomator, CryptomatorCtrMac}
 use Rattle.vault_spec.specs.NewVault.{go_files, cm_files, new_go_vault, new_cm_vault}
 use Rattle.vault_spec.specs.Vault.{Vault}
-use Rattle.vault_write.specs.Founding.{Founds, FoundsCm, IsFounding, IsNewVault, founding, new_go, new_cm, texts, vault_edit}
+use Rattle.vault_write.specs.Founding.{Founds, FoundsCm, MakesDrawn, IsFounding, IsNewVault, founding, new_go, new_cm, texts, vault_edit}
 use Rattle.item_making.specs.Making.{StagesOrPlaces, is_apart, is_unstaged}
 use Rattle.work_folder.specs.Entering.{EntersAs, IsFresh, IsReady}
 use Rattle.open_for_changing.proofs.Beginnings.{Begins, apart_of_both, apart_of_unstaged, as_before_in, as_before_then, begun_then, seen_after, unstaged}
@@ -127,12 +128,19 @@ some_vault : {E : Type 0} (result : Result (Unit {0}) E) (made : View) (phrase :
 some_vault (Ok done) made phrase vault is = (vault, is)
 some_vault (Err fault) made phrase vault is = tt
 
+-- where nothing was founded there is what was before it
+only_begun : (work : Path) (t u w : Option Told) → ChangesWork work t u → (result : Result (Unit {0}) PutFault) → MakesDrawn (w ≡ u) result → MakesDrawn (ChangesWork work t w) result
+only_begun work t u w begins (Err puts.Random) same = subst (ChangesWork work t) (sym same) begins
+only_begun work t u w begins (Err puts.ZeroRandom) same = subst (ChangesWork work t) (sym same) begins
+only_begun work t u w begins (Ok done) same = tt
+only_begun work t u w begins (Err fault) same = tt
+
 module _ (new : NewVault) (phrase : List ℕ) (answer : Answer) (t u w : Option Told) (stream stream' : Option ByteStream) (sound : (a : Told) → t ≡ Some a → IsSound a.state)
     (begins : ChangesWork new.work t u) (reads : IfSeen t (λ v. IsPhrase (v new.pass) phrase)) (apart : overlap new.vault new.work ≡ false) (sound_then : (a : Told) → u ≡ Some a → IsSound a.state)
     (fresh : IfSeen u (λ v. IsFresh v new.work)) where
-  from_parts : (made : View) (files : List (Part × List ℕ)) (result : Result (Unit {0}) PutFault) → answer ≡ answer_to_making result → DrawsVault new.format phrase made files stream stream' result
+  from_parts : (made : View) (files : List (Part × List ℕ)) (result : Result (Unit {0}) PutFault) → answer ≡ answer_to_making result → DrawsVault new.format phrase made files stream stream' result → MakesDrawn (w ≡ u) result
       → Founds new.work new.vault made files u w result → OnOk result ((vault : Vault) × IsNewVault made phrase vault) → FoundsVault new answer t w stream stream'
-  from_parts made files result answers drew founds opens = record {
+  from_parts made files result answers drew drawn_first founds opens = record {
     phrase = phrase;
     reads = reads;
     result = result;
@@ -140,6 +148,7 @@ module _ (new : NewVault) (phrase : List ℕ) (answer : Answer) (t u w : Option 
     made = made;
     files = files;
     draws = drew;
+    made_drawn = only_begun new.work t u w begins result drawn_first;
     moments = moments_of new.work new.vault made files t u w sound begins founds.moments;
     settled = settled_of new.work new.vault made files t u w sound begins result founds.done;
     vault = opens;
@@ -156,7 +165,7 @@ module _ (new : NewVault) (phrase : List ℕ) (answer : Answer) (t u w : Option 
       from_parts made files result answers
       (subst (λ (k : Format). DrawsVault k phrase made files stream stream' result) (sym is)
       (draws made files result (founds.draw, founds.drawn, founds.sizes, founds.were_drawn, founds.drew, refl, refl)))
-      founds.founds (some_vault result made phrase (new_cm combo founds.draw) founds.vault)
+      founds.made_drawn founds.founds (some_vault result made phrase (new_cm combo founds.draw) founds.vault)
 
   of_kind : (kind : Format) → new.format ≡ kind → (result : Result (Unit {0}) PutFault) → answer ≡ answer_to_making result
       → FoundsNew kind new.work new.vault phrase stream stream' u w result → FoundsVault new answer t w stream stream'
@@ -165,7 +174,7 @@ module _ (new : NewVault) (phrase : List ℕ) (answer : Answer) (t u w : Option 
       let files : List (Part × List ℕ) = go_files phrase (cost_of Gocryptfs) founds.draw founds.key in
       from_parts made files result answers
       (subst (λ (k : Format). DrawsVault k phrase made files stream stream' result) (sym is) (founds.draw, founds.key, founds.drawn, founds.sizes, founds.were_drawn, founds.drew, refl, refl))
-      founds.founds (some_vault result made phrase (new_go founds.draw) founds.vault)
+      founds.made_drawn founds.founds (some_vault result made phrase (new_go founds.draw) founds.vault)
   of_kind Cryptomator is result answers founds = of_cryptomator SivGcm Cryptomator is (λ made files drew draws. draws) result answers founds
   of_kind CryptomatorCtrMac is result answers founds = of_cryptomator SivCtrMac CryptomatorCtrMac is (λ made files drew draws. draws) result answers founds
 

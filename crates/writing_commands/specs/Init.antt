@@ -22,10 +22,10 @@ use Rattle.command_words.specs.declared.values.Format.TheVariants.{Gocryptfs, Cr
 use Rattle.vault_spec.specs.NewVault.{go_files, cm_files, new_go_vault, new_cm_vault}
 use Rattle.vault_spec.specs.Vault.{Vault}
 use Rattle.work_folder.specs.Entering.{IsFresh}
-use Rattle.vault_write.specs.Founding.{FoundsGo, FoundsCm, IsGoDraw, IsCmDraw, GoDrew, CmDrew, IsNewVault, founding, texts, vault_edit}
+use Rattle.vault_write.specs.Founding.{FoundsGo, FoundsCm, IsGoDraw, IsCmDraw, GoDrew, CmDrew, MakesDrawn, IsNewVault, founding, texts, vault_edit}
 use Rattle.item_making.specs.Making.{StagesOrPlaces}
 use Rattle.open_for_reading.specs.Tests.{is_of_readying}
-use Rattle.open_for_changing.specs.Beginning.{MakesBeside, OfWork}
+use Rattle.open_for_changing.specs.Beginning.{ChangesWork, MakesBeside, OfWork}
 use Rattle.open_for_reading.specs.Places.{OfFree}
 use Rattle.writing_commands.specs.Faults.{answer_to_making}
 use Rattle.open_for_reading.specs.Opening.{IsPhrase, OfPassFile}
@@ -75,7 +75,7 @@ pub record IsMakingVault (work : Path) (vault : Edit) (files : List (List ℕ)) 
   pub others : IsAsBefore (apart_from_both work vault.at) s0 s
   pub fronts : HoldFronts files s0 s
 
--- The vault is made. After Ok it stands there for good, the passphrase opens it, it has
+-- The vault is made, and no file of it before all its bytes are drawn. After Ok it stands there for good, the passphrase opens it, it has
 -- no items, and in the work folder stands nothing but an empty stage.
 pub record FoundsVault (new : NewVault) (answer : Answer) (told told' : Option Told) (stream stream' : Option ByteStream) : Type 0 where
   pub phrase : List ℕ
@@ -85,6 +85,7 @@ pub record FoundsVault (new : NewVault) (answer : Answer) (told told' : Option T
   pub made : View
   pub files : List (Part × List ℕ)
   pub draws : DrawsVault new.format phrase made files stream stream' result
+  pub made_drawn : MakesDrawn (ChangesWork new.work told told') result
   pub moments : Moments (IsMakingVault new.work (vault_edit new.vault made) (texts files))
       (λ s0 s e. Spares (apart_from new.work) e.call ⊎ StagesOrPlaces new.work (founding new.vault made files) s e.call) told told'
   pub settled : OnOk result (FromTo (λ a b. HasSettledIn (apart_from new.work) (vault_edit new.vault made ∷ []) a.state b.state) told told')

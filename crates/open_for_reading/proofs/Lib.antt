@@ -1,3 +1,4 @@
+pub mod Carrying
 pub mod Counts
 mod Looks
 pub mod Overlaps

@@ -1,4 +1,5 @@
 pub mod World
+pub mod Carrying
 pub mod Shown
 pub mod Opening
 pub mod Tests

@@ -1,17 +1,16 @@
 //! `fsck`: tells what is found in a vault.
-ghost use Rattle.std.specs.Prelude.{◌≡◌, ◌++◌, ◌∷◌, [], Err, IfErr, IfOk, IsTrue, OnOk, ℕ, Bool, List, Option, string_bytes, Some};
+ghost use Rattle.std.specs.Prelude.{◌≡◌, ◌++◌, ◌∷◌, [], Err, IfErr, IfOk, IsTrue, OnOk, ⊤, string_bytes};
 ghost use Rattle.std.specs.Io.KnownBytes.{Keeps};
 ghost use Rattle.folder_spec.specs.View.{View};
 ghost use Rattle.folder_spec.specs.Seen.{IfSeen, IsSeen};
 ghost use Rattle.port_model.specs.Counts.{CountRose};
-ghost use Rattle.port_model.specs.Draws.{ByteStream};
 ghost use Rattle.std.specs.List.{flat_map};
+ghost use Rattle.open_for_reading.specs.Carrying.{CarriesOut};
 ghost use Rattle.open_for_reading.specs.World.{World};
 ghost use Rattle.checking_commands.specs.Fsck.{ChecksVault, ShowsReport, fault_part, is_of_checking};
 ghost use Rattle.checking_commands.specs.Lines.{answer_to_found, found_line, noted_line, told_text};
 ghost use Rattle.open_for_reading.specs.Refusing.{Unless};
 ghost use Rattle.open_for_reading.specs.Shown.{Follows, is_of_opening, refused};
-ghost use Rattle.command_answers.specs.Rows.{Ends};
 ghost use Rattle.command_words.specs.declared.commands.Command.TheVariants.{Fsck};
 
 use crate::faults::answer_to_check;
@@ -20,27 +19,26 @@ use command_answers::{Answer, finding_name, shown_folder};
 use command_words::commands::Checking;
 use folder_model::{FPath, Folder};
 use open_for_reading::open;
-use port_model::Sink;
+use port_model::{Randoms, Sink, Source};
 use std::alloc::{AllocError, Global};
 use vault_check::{Report, check};
 use vault_read::laws::roots_have_one_answer;
 use vault_walk::Finding;
 
 /// Writes the findings of a vault, and then its notes, one a line, once all are known.
-pub fn fsck<F: Folder, O: Sink>(
+pub fn fsck<F: Folder, R: Randoms, I: Source, O: Sink>(
     alloc: Global,
     target: &Checking,
     folder: &mut F,
+    random: &mut R,
+    input: &mut I,
     out: &mut O,
 ) -> Answer
-    // Whatever the input and the random source give, which it isn't handed.
-    ensures checks { (left : Option (List ℕ)) (ended : Bool) (random : Option ByteStream) → ChecksVault target.now result
-        (record { told = F.told folder.old; left = left; ended = ended; taken = O.taken out.old; random = random })
-        (record { told = F.told folder.new; left = left; ended = ended; taken = O.taken out.new; random = random }) }
-    ensures own { IsTrue (is_of_checking result) }
-    ensures folder_fault { result ≡ Answer.FolderFault → CountRose (F.faults folder.old) (F.faults folder.new) }
-    ensures output_fault { result ≡ Answer.OutputFault → CountRose (O.faults out.old) (O.faults out.new) }
-    ensures row { Ends (Some (Fsck target.now)) result }
+    ensures { CarriesOut (Fsck target.now) (ChecksVault target.now) (λ v. ⊤) result
+        (record { told = F.told folder.old; left = I.left input.old; ended = I.ended input.old; taken = O.taken out.old; random = R.left random.old })
+        (record { told = F.told folder.new; left = I.left input.new; ended = I.ended input.new; taken = O.taken out.new; random = R.left random.new })
+        (CountRose (F.faults folder.old) (F.faults folder.new)) (CountRose (I.faults input.old) (I.faults input.new))
+        (CountRose (O.faults out.old) (O.faults out.new)) (CountRose (R.faults random.old) (R.faults random.new)) }
 {
     roots_have_one_answer();
     tell(alloc, target, folder, out)

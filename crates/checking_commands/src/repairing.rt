@@ -1,11 +1,11 @@
 //! `repair`: moves the strays of a vault into a folder of lost ones.
-ghost use Rattle.std.specs.Prelude.{◌≡◌, ◌⊎◌, ◌++◌, ℕ, Bool, false, List, Option, Err, IfErr, IfOk, IsTrue, OnOk, string_bytes, Some};
+ghost use Rattle.std.specs.Prelude.{◌≡◌, ◌⊎◌, ◌++◌, ℕ, ⊤, Bool, false, List, Option, Err, IfErr, IfOk, IsTrue, OnOk, string_bytes, Some};
 ghost use Rattle.folder_spec.specs.Event.{FromTo};
 ghost use Rattle.folder_spec.specs.Seen.{IfSeen, IsSeen, under};
 ghost use Rattle.folder_spec.specs.View.{View};
 ghost use Rattle.port_model.specs.Counts.{CountRose};
-ghost use Rattle.port_model.specs.Draws.{ByteStream};
 ghost use Rattle.open_for_reading.specs.Places.{overlap};
+ghost use Rattle.open_for_reading.specs.Carrying.{CarriesOut};
 ghost use Rattle.open_for_reading.specs.World.{World};
 ghost use Rattle.open_for_reading.specs.Refusing.{Unless};
 ghost use Rattle.checking_commands.specs.Repair.{HasStopped, IsOfMoving, MovesStrays, OfRepairing, RepairsVault, TellsMoved, TellsMovedStrays, is_of_test, moved_line, moved_text};
@@ -13,7 +13,6 @@ ghost use Rattle.vault_check.specs.Repairing.{HasNoStrays, MayMoveTo, RepairsAt,
 ghost use Rattle.vault_spec.specs.Vault.{format_of};
 ghost use Rattle.vault_walk.specs.Surveyed.{IsWithin};
 ghost use Rattle.open_for_reading.specs.Tests.{is_of_moving};
-ghost use Rattle.command_answers.specs.Rows.{Ends};
 ghost use Rattle.command_words.specs.declared.commands.Command.TheVariants.{Repair};
 
 use crate::faults::answer_to_check;
@@ -21,7 +20,7 @@ use command_answers::{Answer, print, shown_folder};
 use command_words::commands::Repairing;
 use folder_model::{FPath, Folder};
 use open_for_reading::{do_overlap, open, overlapping, test_free};
-use port_model::Sink;
+use port_model::{Randoms, Sink, Source};
 use std::alloc::{AllocError, Global};
 use vault_check::laws::{repaired_vaults_have_no_strays, repairs_keep_what_opens};
 use vault_check::{CheckFault, strays_of};
@@ -29,19 +28,19 @@ use vault_read::Vault;
 use vault_read::laws::roots_have_one_answer;
 
 /// Moves the strays of a vault, and then writes their old paths, one a line. Once they are moved, no want of memory can hide it.
-pub fn repair<F: Folder, O: Sink>(
+pub fn repair<F: Folder, R: Randoms, I: Source, O: Sink>(
     alloc: Global,
     target: &Repairing,
     folder: &mut F,
+    random: &mut R,
+    input: &mut I,
     out: &mut O,
 ) -> Answer
-    // Whatever the input and the random source give, which it isn't handed.
-    ensures repairs { (left : Option (List ℕ)) (ended : Bool) (random : Option ByteStream) → RepairsVault target.now result
-        (record { told = F.told folder.old; left = left; ended = ended; taken = O.taken out.old; random = random })
-        (record { told = F.told folder.new; left = left; ended = ended; taken = O.taken out.new; random = random }) }
-    ensures folder_fault { result ≡ Answer.FolderFault → CountRose (F.faults folder.old) (F.faults folder.new) }
-    ensures output_fault { result ≡ Answer.OutputFault → CountRose (O.faults out.old) (O.faults out.new) }
-    ensures row { Ends (Some (Repair target.now)) result }
+    ensures { CarriesOut (Repair target.now) (RepairsVault target.now) (λ v. ⊤) result
+        (record { told = F.told folder.old; left = I.left input.old; ended = I.ended input.old; taken = O.taken out.old; random = R.left random.old })
+        (record { told = F.told folder.new; left = I.left input.new; ended = I.ended input.new; taken = O.taken out.new; random = R.left random.new })
+        (CountRose (F.faults folder.old) (F.faults folder.new)) (CountRose (I.faults input.old) (I.faults input.new))
+        (CountRose (O.faults out.old) (O.faults out.new)) (CountRose (R.faults random.old) (R.faults random.new)) }
 {
     if do_overlap(&target.vault, &target.lost) {
         return overlapping(&target.vault, &target.lost);

@@ -1,18 +1,16 @@
 //! `demo`: makes a tree from a number, and moves it to the other format and back, in a folder of its own.
-ghost use Rattle.std.specs.Prelude.{◌≡◌, ◌≤◌, ℕ, Bool, List, Option, Err, IfErr, IfOk, OnOk, IsTrue, Some};
+ghost use Rattle.std.specs.Prelude.{◌≡◌, ◌≤◌, ℕ, ⊤, Err, IfErr, IfOk, OnOk, IsTrue};
 ghost use Rattle.command_answers.specs.Answers.{status_of};
 ghost use Rattle.command_answers.specs.Messages.{TakesText, line_of};
+ghost use Rattle.open_for_reading.specs.Carrying.{CarriesOut};
 ghost use Rattle.open_for_reading.specs.World.{World};
 ghost use Rattle.demo_core.specs.Drawing.{Drew};
 ghost use Rattle.demo_core.specs.Sharing.{GoesOn};
 ghost use Rattle.demonstration.specs.Demo.{Demonstrates, EndsSo, IsBare, OnEnd, PrintsAll, PrintsBack, PrintsDemonstration, PrintsWay, chances, chances_of, is_of_demonstration, is_of_fault};
 ghost use Rattle.demonstration.specs.DemoSteps.{CanLead, Sees};
 ghost use Rattle.demonstration.specs.DemoTrees.{BringsItems, Leads, LeadsBoth, MakesItems, WhereTold, second_root, third_root};
-ghost use Rattle.folder_spec.specs.Event.{Told};
 ghost use Rattle.migration_answers.specs.Stops.{is_of_stop};
 ghost use Rattle.port_model.specs.Counts.{CountRose};
-ghost use Rattle.port_model.specs.Draws.{ByteStream};
-ghost use Rattle.command_answers.specs.Rows.{Ends};
 ghost use Rattle.command_words.specs.declared.commands.Command.TheVariants.{Demo};
 
 use crate::faults::answer_to_make;
@@ -23,7 +21,7 @@ use command_words::commands::Demonstration;
 use demo_core::{SteadyFolder, make_first, place, random_of};
 use folder_model::Folder;
 use port_model::laws::draws_compose;
-use port_model::{Randoms, Sink};
+use port_model::{Randoms, Sink, Source};
 use std::alloc::Global;
 use vault_read::VaultKind;
 use vault_read::laws::roots_have_one_answer;
@@ -56,19 +54,25 @@ pub fn demo_in<F: Folder, O: Sink, E: Sink>(
 }
 
 /// Does so in a new folder in memory, in which no call fails.
-pub fn demo<O: Sink>(alloc: Global, demonstration: &Demonstration, out: &mut O) -> Answer
+pub fn demo<F: Folder, R: Randoms, I: Source, O: Sink>(
+    alloc: Global,
+    demonstration: &Demonstration,
+    folder: &mut F,
+    random: &mut R,
+    input: &mut I,
+    out: &mut O,
+) -> Answer
     requires { demonstration.now.count ≤ 2000 }
-    // Whatever the folder, the input and the random source tell, which it isn't handed.
-    ensures demonstrates { (told : Option Told) (left : Option (List ℕ)) (ended : Bool) (random : Option ByteStream) → Demonstrates demonstration.now result
-        (record { told = told; left = left; ended = ended; taken = O.taken out.old; random = random })
-        (record { told = told; left = left; ended = ended; taken = O.taken out.new; random = random }) }
-    ensures output_fault { result ≡ Answer.OutputFault → CountRose (O.faults out.old) (O.faults out.new) }
-    ensures row { Ends (Some (Demo demonstration.now)) result }
+    ensures { CarriesOut (Demo demonstration.now) (Demonstrates demonstration.now) (λ v. ⊤) result
+        (record { told = F.told folder.old; left = I.left input.old; ended = I.ended input.old; taken = O.taken out.old; random = R.left random.old })
+        (record { told = F.told folder.new; left = I.left input.new; ended = I.ended input.new; taken = O.taken out.new; random = R.left random.new })
+        (CountRose (F.faults folder.old) (F.faults folder.new)) (CountRose (I.faults input.old) (I.faults input.new))
+        (CountRose (O.faults out.old) (O.faults out.new)) (CountRose (R.faults random.old) (R.faults random.new)) }
 {
     let Demonstration { seed, count } = *demonstration;
     let count = count as u32;
     match SteadyFolder::new(alloc) {
-        Ok(mut folder) => demonstrate(alloc, &mut folder, seed, count, out),
+        Ok(mut steady) => demonstrate(alloc, &mut steady, seed, count, out),
         Err(_) => Answer::OutOfMemory,
     }
 }

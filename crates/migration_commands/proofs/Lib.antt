@@ -1,3 +1,4 @@
+mod Carrying
 mod Migrations
 mod Retirings
 mod Histories

@@ -1,5 +1,5 @@
 //! `migrate`: moves the tree of one vault into another.
-ghost use Rattle.std.specs.Prelude.{◌≡◌, ◌≢◌, ℕ, Bool, List, Option, Ok, Err, IfErr, IfOk, IsTrue, Some};
+ghost use Rattle.std.specs.Prelude.{◌≡◌, ◌≢◌, Ok, Err, IfErr, IfOk, IsTrue};
 ghost use Rattle.folder_spec.specs.Apart.{AreSeparate};
 ghost use Rattle.folder_spec.specs.Path.{Path};
 ghost use Rattle.folder_spec.specs.Seen.{IfSeen};
@@ -8,12 +8,12 @@ ghost use Rattle.migrate_core.specs.Drawing.{Drew};
 ghost use Rattle.migrate_core.specs.Moving.{MovesOnly};
 ghost use Rattle.port_model.specs.Counts.{CountRose};
 ghost use Rattle.migration_spec.specs.Guard.{Migration};
+ghost use Rattle.open_for_reading.specs.Carrying.{CarriesOut};
 ghost use Rattle.open_for_reading.specs.World.{World};
 ghost use Rattle.command_words.specs.Written.{AreWritten};
 ghost use Rattle.migration_commands.specs.Migrate.{ComesTo, HasMigrated, IsAskedFor, MayCome, MigratesApart, MigratesTree, SidesHaveOwnFolders, root_of};
 ghost use Rattle.migration_answers.specs.Stops.{is_of_stop};
 ghost use Rattle.migration_commands.specs.Moving.{Completes, KeepsAll};
-ghost use Rattle.command_answers.specs.Rows.{Ends, EndsTold};
 ghost use Rattle.command_words.specs.declared.commands.Command.TheVariants.{Migrate};
 
 use crate::moving::{print_done, read_passes};
@@ -25,27 +25,24 @@ use migration_answers::answer_to_move;
 use migration_sides::Side;
 use migration_spec::laws::guarded_migrations_are_safe;
 use open_for_reading::{do_overlap, overlapping};
-use port_model::{Randoms, Sink};
+use port_model::{Randoms, Sink, Source};
 use std::alloc::Global;
 
 /// Moves the source's tree into the target, and then writes what was done.
-pub fn migrate<F: Folder, R: Randoms, O: Sink>(
+pub fn migrate<F: Folder, R: Randoms, I: Source, O: Sink>(
     alloc: Global,
     moving: &Moving,
     folder: &mut F,
     random: &mut R,
+    input: &mut I,
     out: &mut O,
 ) -> Answer
     requires written { AreWritten moving.now }
-    // Whatever the input gives, which it isn't handed.
-    ensures migrates { (left : Option (List ℕ)) (ended : Bool) → MigratesTree moving.now result
-        (record { told = F.told folder.old; left = left; ended = ended; taken = O.taken out.old; random = R.left random.old })
-        (record { told = F.told folder.new; left = left; ended = ended; taken = O.taken out.new; random = R.left random.new }) }
-    ensures folder_fault { result ≡ Answer.FolderFault → CountRose (F.faults folder.old) (F.faults folder.new) }
-    ensures random_fault { result ≡ Answer.RandomFault → CountRose (R.faults random.old) (R.faults random.new) }
-    ensures output_fault { result ≡ Answer.OutputFault → CountRose (O.faults out.old) (O.faults out.new) }
-    ensures row { Ends (Some (Migrate moving.now)) result }
-    ensures told_row { IfSeen (F.told folder.old) (λ v. SidesHaveOwnFolders moving.now v → EndsTold (Some (Migrate moving.now)) result) }
+    ensures { CarriesOut (Migrate moving.now) (MigratesTree moving.now) (λ v. SidesHaveOwnFolders moving.now v) result
+        (record { told = F.told folder.old; left = I.left input.old; ended = I.ended input.old; taken = O.taken out.old; random = R.left random.old })
+        (record { told = F.told folder.new; left = I.left input.new; ended = I.ended input.new; taken = O.taken out.new; random = R.left random.new })
+        (CountRose (F.faults folder.old) (F.faults folder.new)) (CountRose (I.faults input.old) (I.faults input.new))
+        (CountRose (O.faults out.old) (O.faults out.new)) (CountRose (R.faults random.old) (R.faults random.new)) }
 {
     if do_overlap(&moving.source, &moving.target) {
         return overlapping(&moving.source, &moving.target);

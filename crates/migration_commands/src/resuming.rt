@@ -1,5 +1,5 @@
 //! `resume`: goes on with a migration.
-ghost use Rattle.std.specs.Prelude.{◌≡◌, ◌⊎◌, ℕ, Bool, List, Option, Ok, Err, IfErr, IfOk, IsTrue, Some};
+ghost use Rattle.std.specs.Prelude.{◌≡◌, ◌⊎◌, ⊤, Ok, Err, IfErr, IfOk, IsTrue};
 ghost use Rattle.folder_spec.specs.Seen.{IfSeen, IsSeen};
 ghost use Rattle.folder_spec.specs.View.{View};
 ghost use Rattle.migrate_core.specs.Completing.{CanResume};
@@ -11,12 +11,12 @@ ghost use Rattle.move_journal.specs.Journal.{IsJournal};
 ghost use Rattle.move_journal.specs.Reading.{StandsIn};
 ghost use Rattle.port_model.specs.Counts.{CountRose};
 ghost use Rattle.migration_spec.specs.Guard.{Migration};
+ghost use Rattle.open_for_reading.specs.Carrying.{CarriesOut};
 ghost use Rattle.open_for_reading.specs.World.{World};
 ghost use Rattle.migration_answers.specs.Faults.{of_move};
 ghost use Rattle.migration_answers.specs.Stops.{is_of_told_stop};
 ghost use Rattle.migration_commands.specs.Moving.{Completes, KeepsAll};
 ghost use Rattle.migration_commands.specs.Resume.{ComesTo, HasResumed, IsResumedFor, MayCome, ResumesTree, root_by, unopened};
-ghost use Rattle.command_answers.specs.Rows.{Ends, EndsTold};
 ghost use Rattle.command_words.specs.declared.commands.Command.TheVariants.{Resume};
 
 use crate::moving::{learn, print_done, root_by};
@@ -29,26 +29,23 @@ use migration_answers::answer_to_move;
 use migration_sides::Side;
 use migration_spec::laws::guarded_migrations_are_safe;
 use move_journal::Journal;
-use port_model::{Randoms, Sink};
+use port_model::{Randoms, Sink, Source};
 use std::alloc::Global;
 
 /// Goes on with the migration that the journal tells of, and then writes what was done.
-pub fn resume<F: Folder, R: Randoms, O: Sink>(
+pub fn resume<F: Folder, R: Randoms, I: Source, O: Sink>(
     alloc: Global,
     resuming: &Resuming,
     folder: &mut F,
     random: &mut R,
+    input: &mut I,
     out: &mut O,
 ) -> Answer
-    // Whatever the input gives, which it isn't handed.
-    ensures resumes { (left : Option (List ℕ)) (ended : Bool) → ResumesTree resuming.now result
-        (record { told = F.told folder.old; left = left; ended = ended; taken = O.taken out.old; random = R.left random.old })
-        (record { told = F.told folder.new; left = left; ended = ended; taken = O.taken out.new; random = R.left random.new }) }
-    ensures folder_fault { result ≡ Answer.FolderFault → CountRose (F.faults folder.old) (F.faults folder.new) }
-    ensures random_fault { result ≡ Answer.RandomFault → CountRose (R.faults random.old) (R.faults random.new) }
-    ensures output_fault { result ≡ Answer.OutputFault → CountRose (O.faults out.old) (O.faults out.new) }
-    ensures row { Ends (Some (Resume resuming.now)) result }
-    ensures told_row { IfSeen (F.told folder.old) (λ v. EndsTold (Some (Resume resuming.now)) result) }
+    ensures { CarriesOut (Resume resuming.now) (ResumesTree resuming.now) (λ v. ⊤) result
+        (record { told = F.told folder.old; left = I.left input.old; ended = I.ended input.old; taken = O.taken out.old; random = R.left random.old })
+        (record { told = F.told folder.new; left = I.left input.new; ended = I.ended input.new; taken = O.taken out.new; random = R.left random.new })
+        (CountRose (F.faults folder.old) (F.faults folder.new)) (CountRose (I.faults input.old) (I.faults input.new))
+        (CountRose (O.faults out.old) (O.faults out.new)) (CountRose (R.faults random.old) (R.faults random.new)) }
 {
     match go_on(alloc, resuming, folder, random) {
         Ok(done) => print_done(alloc, &done, out),

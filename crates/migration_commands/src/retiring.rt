@@ -1,13 +1,13 @@
 //! `retire`: removes the source of a finished migration.
-ghost use Rattle.std.specs.Prelude.{◌≡◌, ◌⊎◌, ℕ, Bool, List, Option, Ok, Err, IfErr, IfOk, IsTrue, string_bytes, Some};
+ghost use Rattle.std.specs.Prelude.{◌≡◌, ◌⊎◌, ⊤, Ok, Err, IfErr, IfOk, IsTrue, string_bytes};
 ghost use Rattle.folder_spec.specs.Seen.{IfSeen};
 ghost use Rattle.port_model.specs.Counts.{CountRose};
-ghost use Rattle.port_model.specs.Draws.{ByteStream};
 ghost use Rattle.retire_core.specs.Completing.{CanRetire};
 ghost use Rattle.retire_core.specs.Faults.{IsRetireFault};
 ghost use Rattle.retire_core.specs.Retiring.{KeepsInOrder};
 ghost use Rattle.migration_spec.specs.Guard.{Migration};
 ghost use Rattle.command_answers.specs.Printing.{PrintsText};
+ghost use Rattle.open_for_reading.specs.Carrying.{CarriesOut};
 ghost use Rattle.open_for_reading.specs.World.{World};
 ghost use Rattle.migration_answers.specs.Faults.{of_retire};
 ghost use Rattle.migration_answers.specs.Stops.{is_of_refusal};
@@ -15,7 +15,6 @@ ghost use Rattle.migration_commands.specs.Moving.{KeepsAll};
 ghost use Rattle.migration_commands.specs.Resume.{IsResumedFor};
 ghost use Rattle.migration_commands.specs.Resume.{root_by};
 ghost use Rattle.migration_commands.specs.Retire.{ComesTo, Completes, IsRetired, MayCome, RetiresSource, retired_text, unopened};
-ghost use Rattle.command_answers.specs.Rows.{Ends, EndsTold};
 ghost use Rattle.command_words.specs.declared.commands.Command.TheVariants.{Retire};
 
 use crate::moving::{learn, root_by};
@@ -26,25 +25,24 @@ use migration_answers::answer_to_retire;
 use migration_sides::Side;
 use migration_spec::laws::guarded_migrations_are_safe;
 use move_journal::Journal;
-use port_model::Sink;
+use port_model::{Randoms, Sink, Source};
 use retire_core::{RetireFault, Retired};
 use std::alloc::{AllocError, Global};
 
 /// Removes the source of the migration that the journal tells of, and the work folder, and then writes how many items it had.
-pub fn retire<F: Folder, O: Sink>(
+pub fn retire<F: Folder, R: Randoms, I: Source, O: Sink>(
     alloc: Global,
     resuming: &Resuming,
     folder: &mut F,
+    random: &mut R,
+    input: &mut I,
     out: &mut O,
 ) -> Answer
-    // Whatever the input and the random source give, which it isn't handed.
-    ensures retires { (left : Option (List ℕ)) (ended : Bool) (random : Option ByteStream) → RetiresSource resuming.now result
-        (record { told = F.told folder.old; left = left; ended = ended; taken = O.taken out.old; random = random })
-        (record { told = F.told folder.new; left = left; ended = ended; taken = O.taken out.new; random = random }) }
-    ensures folder_fault { result ≡ Answer.FolderFault → CountRose (F.faults folder.old) (F.faults folder.new) }
-    ensures output_fault { result ≡ Answer.OutputFault → CountRose (O.faults out.old) (O.faults out.new) }
-    ensures row { Ends (Some (Retire resuming.now)) result }
-    ensures told_row { IfSeen (F.told folder.old) (λ v. EndsTold (Some (Retire resuming.now)) result) }
+    ensures { CarriesOut (Retire resuming.now) (RetiresSource resuming.now) (λ v. ⊤) result
+        (record { told = F.told folder.old; left = I.left input.old; ended = I.ended input.old; taken = O.taken out.old; random = R.left random.old })
+        (record { told = F.told folder.new; left = I.left input.new; ended = I.ended input.new; taken = O.taken out.new; random = R.left random.new })
+        (CountRose (F.faults folder.old) (F.faults folder.new)) (CountRose (I.faults input.old) (I.faults input.new))
+        (CountRose (O.faults out.old) (O.faults out.new)) (CountRose (R.faults random.old) (R.faults random.new)) }
 {
     match remove(alloc, resuming, folder) {
         Ok(retired) => print_retired(alloc, &retired, out),

@@ -31,7 +31,7 @@ use Rattle.open_for_reading.specs.Opening.{Opens}
 use Rattle.open_for_reading.specs.Refusing.{Unless}
 use Rattle.open_for_reading.specs.Shown.{Shown, refused, Follows, IsCutShort, Reads, is_of_reading}
 use Rattle.command_answers.specs.declared.answer.Answer.{Answer}
-use Rattle.command_answers.specs.declared.answer.Answer.TheVariants.{Done, FolderFault, Damaged, Limit}
+use Rattle.command_answers.specs.declared.answer.Answer.TheVariants.{Done, FolderFault, OutputFault, Damaged, Limit}
 use Rattle.command_answers.specs.declared.answer.Damage.TheVariants as damage
 use Rattle.command_answers.specs.declared.answer.Limit.TheVariants as limit
 use Rattle.command_words.specs.declared.commands.Target.{Target}
@@ -174,6 +174,12 @@ cat_fails cat.Failed is = inl refl
 cat_fails (cat.Find find.Failed) is = inr refl
 cat_fails (cat.Find fault) is = cc
 cat_fails fault is = cc
+
+pub cat_unwritten : (fault : CatFault) → of_cat fault ≡ OutputFault → fault ≡ cat.Sink
+cat_unwritten cat.Sink is = refl
+cat_unwritten (cat.Find find.Failed) is = cc
+cat_unwritten (cat.Find fault) is = cc
+cat_unwritten fault is = cc
 
 -- a file that isn't found is the one fault that is answered so, and nothing is written then
 pub quiet_fault : (fault : CatFault) (taken taken' : Option (List ℕ)) → ((found : FindFault) → fault ≡ cat.Find found → Keeps taken taken')

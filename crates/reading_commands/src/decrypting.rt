@@ -1,21 +1,20 @@
 //! `decrypt-file`: decrypts a content file that comes by the input.
-ghost use Rattle.std.specs.Prelude.{◌≡◌, ◌+◌, ◌≤◌, ◌<◌, ◌⊎◌, List, ℕ, IsTrue, IfOk, IfSome, OnErr, Ok, Option, None, Some, length, true, false};
+ghost use Rattle.std.specs.Prelude.{◌≡◌, ◌+◌, ◌≤◌, ◌<◌, ◌⊎◌, List, ℕ, ⊤, IsTrue, IfOk, IfSome, OnErr, Ok, Option, None, Some, length, true, false};
 ghost use Rattle.std.specs.Io.KnownBytes.{IsAtEnd};
 ghost use Rattle.port_model.specs.Counts.{CountRose};
-ghost use Rattle.folder_spec.specs.Event.{Told};
-ghost use Rattle.port_model.specs.Draws.{ByteStream};
+ghost use Rattle.open_for_reading.specs.Carrying.{CarriesOut};
 ghost use Rattle.open_for_reading.specs.World.{World};
 ghost use Rattle.reading_commands.specs.DecryptFile.{DecryptsFile};
 ghost use Rattle.reading_commands.specs.Inputs.{TakesAtMost, input_limit};
 ghost use Rattle.reading_commands.specs.Decrypts.{TakesNear, TellsOf, Writes, input_reading};
 ghost use Rattle.reading_commands.specs.Streaming.{Drains, HasWritten, Outcome};
-ghost use Rattle.command_answers.specs.Rows.{Ends};
 ghost use Rattle.command_words.specs.declared.commands.Command.TheVariants.{DecryptFile};
 
 use chunk_files::laws::{files_are_what_they_give, given_chunks_come_first, whole_files_end};
 use chunk_files::{ChunkBuf, ChunkFault, ContentKeys, Decoder, Step};
 use command_answers::Answer;
-use port_model::{Sink, Source, SourceFault};
+use folder_model::Folder;
+use port_model::{Randoms, Sink, Source, SourceFault};
 use std::alloc::Global;
 use vault_faults::CONTENT_LIMIT;
 
@@ -39,19 +38,19 @@ pub enum DecryptEnd {
 const PIECE_SIZE: usize = 32_768;
 
 /// Decrypts a gocryptfs content file from the input piece by piece, and writes each chunk as it is opened.
-pub fn decrypt_file<I: Source, O: Sink>(
+pub fn decrypt_file<F: Folder, R: Randoms, I: Source, O: Sink>(
     alloc: Global,
     key: &[u8; 32],
+    folder: &mut F,
+    random: &mut R,
     input: &mut I,
     out: &mut O,
 ) -> Answer
-    // Whatever the folder tells and the random source gives, which it isn't handed.
-    ensures decrypts { (told : Option Told) (random : Option ByteStream) → DecryptsFile key.now result
-        (record { told = told; left = I.left input.old; ended = I.ended input.old; taken = O.taken out.old; random = random })
-        (record { told = told; left = I.left input.new; ended = I.ended input.new; taken = O.taken out.new; random = random }) }
-    ensures input_fault { result ≡ Answer.InputFault → CountRose (I.faults input.old) (I.faults input.new) }
-    ensures output_fault { result ≡ Answer.OutputFault → CountRose (O.faults out.old) (O.faults out.new) }
-    ensures row { Ends (Some (DecryptFile key.now)) result }
+    ensures { CarriesOut (DecryptFile key.now) (DecryptsFile key.now) (λ v. ⊤) result
+        (record { told = F.told folder.old; left = I.left input.old; ended = I.ended input.old; taken = O.taken out.old; random = R.left random.old })
+        (record { told = F.told folder.new; left = I.left input.new; ended = I.ended input.new; taken = O.taken out.new; random = R.left random.new })
+        (CountRose (F.faults folder.old) (F.faults folder.new)) (CountRose (I.faults input.old) (I.faults input.new))
+        (CountRose (O.faults out.old) (O.faults out.new)) (CountRose (R.faults random.old) (R.faults random.new)) }
 {
     files_are_what_they_give();
     whole_files_end();

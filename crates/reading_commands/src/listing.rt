@@ -1,13 +1,12 @@
 //! `ls`: lists a directory of a vault.
-ghost use Rattle.std.specs.Prelude.{◌≡◌, ◌++◌, ◌∷◌, [], ℕ, Bool, List, Option, Err, IfErr, IfOk, IsTrue, OnOk, string_bytes, Some};
+ghost use Rattle.std.specs.Prelude.{◌≡◌, ◌++◌, ◌∷◌, [], ⊤, Err, IfErr, IfOk, IsTrue, OnOk, string_bytes};
 ghost use Rattle.folder_spec.specs.Seen.{IfSeen};
 ghost use Rattle.port_model.specs.Counts.{CountRose};
-ghost use Rattle.port_model.specs.Draws.{ByteStream};
 ghost use Rattle.reading_commands.specs.Ls.{ListsItems, ShowsItems, item_line, ls_text, node_letter};
+ghost use Rattle.open_for_reading.specs.Carrying.{CarriesOut};
 ghost use Rattle.open_for_reading.specs.Refusing.{Unless};
 ghost use Rattle.open_for_reading.specs.Shown.{is_refusal, refused};
 ghost use Rattle.open_for_reading.specs.World.{World};
-ghost use Rattle.command_answers.specs.Rows.{Ends};
 ghost use Rattle.command_words.specs.declared.commands.Command.TheVariants.{Ls};
 
 use command_answers::Answer;
@@ -15,21 +14,26 @@ use command_words::commands::Target;
 use folder_model::Folder;
 use open_for_reading::{answer_to_find, open};
 use plain_tree::NodeKind;
-use port_model::Sink;
+use port_model::{Randoms, Sink, Source};
 use std::alloc::{AllocError, Global};
 use vault_read::laws::roots_have_one_answer;
 use vault_read::{Item, list};
 use vault_spec::laws::directories_have_one_list;
 
 /// Writes the items of a directory, one a line, once all are known.
-pub fn ls<F: Folder, O: Sink>(alloc: Global, target: &Target, folder: &mut F, out: &mut O) -> Answer
-    // Whatever the input and the random source give, which it isn't handed.
-    ensures lists { (left : Option (List ℕ)) (ended : Bool) (random : Option ByteStream) → ListsItems target.now result
-        (record { told = F.told folder.old; left = left; ended = ended; taken = O.taken out.old; random = random })
-        (record { told = F.told folder.new; left = left; ended = ended; taken = O.taken out.new; random = random }) }
-    ensures folder_fault { result ≡ Answer.FolderFault → CountRose (F.faults folder.old) (F.faults folder.new) }
-    ensures output_fault { result ≡ Answer.OutputFault → CountRose (O.faults out.old) (O.faults out.new) }
-    ensures row { Ends (Some (Ls target.now)) result }
+pub fn ls<F: Folder, R: Randoms, I: Source, O: Sink>(
+    alloc: Global,
+    target: &Target,
+    folder: &mut F,
+    random: &mut R,
+    input: &mut I,
+    out: &mut O,
+) -> Answer
+    ensures { CarriesOut (Ls target.now) (ListsItems target.now) (λ v. ⊤) result
+        (record { told = F.told folder.old; left = I.left input.old; ended = I.ended input.old; taken = O.taken out.old; random = R.left random.old })
+        (record { told = F.told folder.new; left = I.left input.new; ended = I.ended input.new; taken = O.taken out.new; random = R.left random.new })
+        (CountRose (F.faults folder.old) (F.faults folder.new)) (CountRose (I.faults input.old) (I.faults input.new))
+        (CountRose (O.faults out.old) (O.faults out.new)) (CountRose (R.faults random.old) (R.faults random.new)) }
 {
     roots_have_one_answer();
     directories_have_one_list();

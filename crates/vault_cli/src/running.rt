@@ -8,6 +8,7 @@ ghost use Rattle.folder_spec.specs.Seen.{IfSeen};
 ghost use Rattle.command_words.specs.Commands.{command_of};
 ghost use Rattle.command_words.specs.Written.{HasTexts, IsSmall};
 ghost use Rattle.vault_cli.specs.Runs.{Executes, OwnsFolders, Runs};
+ghost use Rattle.open_for_reading.specs.Carrying.{CarriesOut};
 ghost use Rattle.open_for_reading.specs.World.{World};
 
 use checking_commands::{fsck, repair};
@@ -101,26 +102,24 @@ fn execute_command<F: Folder, R: Randoms, I: Source, O: Sink>(
 ) -> Answer
     requires texts { HasTexts command.now }
     requires small { IsSmall command.now }
-    ensures executes { Executes (Some command.now) result
+    ensures { CarriesOut command.now (λ answer before after. Executes (Some command.now) answer before after) (λ v. OwnsFolders (Some command.now) v) result
         (record { told = F.told folder.old; left = I.left input.old; ended = I.ended input.old; taken = O.taken out.old; random = R.left random.old })
-        (record { told = F.told folder.new; left = I.left input.new; ended = I.ended input.new; taken = O.taken out.new; random = R.left random.new }) }
-    ensures row { Ends (Some command.now) result }
-    ensures told_row { IfSeen (F.told folder.old) (λ v. OwnsFolders (Some command.now) v → EndsTold (Some command.now) result) }
-    ensures blame { Blames result (CountRose (F.faults folder.old) (F.faults folder.new)) (CountRose (I.faults input.old) (I.faults input.new))
+        (record { told = F.told folder.new; left = I.left input.new; ended = I.ended input.new; taken = O.taken out.new; random = R.left random.new })
+        (CountRose (F.faults folder.old) (F.faults folder.new)) (CountRose (I.faults input.old) (I.faults input.new))
         (CountRose (O.faults out.old) (O.faults out.new)) (CountRose (R.faults random.old) (R.faults random.new)) }
 {
     match command {
-        Command::DecryptFile(key) => decrypt_file(alloc, key, input, out),
-        Command::Init(new) => init(alloc, new, folder, random),
-        Command::Ls(target) => ls(alloc, target, folder, out),
-        Command::Cat(target) => cat(alloc, target, folder, out),
-        Command::Fsck(target) => fsck(alloc, target, folder, out),
-        Command::Mkdir(change) => mkdir(alloc, change, folder, random),
-        Command::Put(change) => put(alloc, change, folder, random, input),
-        Command::Repair(target) => repair(alloc, target, folder, out),
-        Command::Migrate(moving) => migrate(alloc, moving, folder, random, out),
-        Command::Resume(resuming) => resume(alloc, resuming, folder, random, out),
-        Command::Retire(resuming) => retire(alloc, resuming, folder, out),
-        Command::Demo(demonstration) => demo(alloc, demonstration, out),
+        Command::DecryptFile(key) => decrypt_file(alloc, key, folder, random, input, out),
+        Command::Init(new) => init(alloc, new, folder, random, input, out),
+        Command::Ls(target) => ls(alloc, target, folder, random, input, out),
+        Command::Cat(target) => cat(alloc, target, folder, random, input, out),
+        Command::Fsck(target) => fsck(alloc, target, folder, random, input, out),
+        Command::Mkdir(change) => mkdir(alloc, change, folder, random, input, out),
+        Command::Put(change) => put(alloc, change, folder, random, input, out),
+        Command::Repair(target) => repair(alloc, target, folder, random, input, out),
+        Command::Migrate(moving) => migrate(alloc, moving, folder, random, input, out),
+        Command::Resume(resuming) => resume(alloc, resuming, folder, random, input, out),
+        Command::Retire(resuming) => retire(alloc, resuming, folder, random, input, out),
+        Command::Demo(demonstration) => demo(alloc, demonstration, folder, random, input, out),
     }
 }

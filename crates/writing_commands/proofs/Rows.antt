@@ -1,5 +1,6 @@
--- What `init`, `mkdir` and `put` did tells an answer of their rows.
+-- How `init`, `mkdir` and `put` carry out what they do, whose answers are of their rows.
 use Rattle.std.proofs.Common.{◌≡◌, ◌⊎◌, Bool, true, false, IsTrue, List, ℕ, Option, Some, Result, Ok, Err, inl, inr, refl, sym, subst}
+use Rattle.std.specs.Prelude.{⊤}
 use Rattle.item_making.specs.declared.fault.PutFault.{PutFault}
 use Rattle.item_making.specs.declared.fault.PutFault.TheVariants as puts
 use Rattle.cryptomator_conf.specs.declared.conf.Combo.{Combo}
@@ -11,7 +12,7 @@ use Rattle.vault_spec.specs.Vault.{Either}
 use Rattle.command_answers.specs.Answers.{status_of}
 use Rattle.command_answers.specs.Rows.{Ends, may_end}
 use Rattle.command_answers.specs.declared.answer.Answer.{Answer}
-use Rattle.command_answers.specs.declared.answer.Answer.TheVariants.{Done, OutOfMemory, Overlap}
+use Rattle.command_answers.specs.declared.answer.Answer.TheVariants.{Done, OutOfMemory, FolderFault, InputFault, OutputFault, RandomFault, Overlap}
 use Rattle.command_words.specs.declared.commands.Change.{Change}
 use Rattle.command_words.specs.declared.commands.Command.{Command}
 use Rattle.command_words.specs.declared.commands.Command.TheVariants.{Init, Mkdir, Put}
@@ -20,6 +21,8 @@ use Rattle.command_words.specs.declared.values.Format.{Format}
 use Rattle.command_words.specs.declared.values.Format.TheVariants.{Gocryptfs, Cryptomator, CryptomatorCtrMac}
 use Rattle.open_for_changing.specs.Faults.{of_put}
 use Rattle.open_for_changing.specs.Beginning.{MakesApart, MakesBeside}
+use Rattle.open_for_reading.proofs.Carrying.{blamed, carried, unnamed}
+use Rattle.open_for_reading.specs.Carrying.{CarriesOut}
 use Rattle.open_for_reading.specs.Tests.{is_of_beginning, is_of_readying}
 use Rattle.writing_commands.specs.Faults.{answer_to_making}
 use Rattle.writing_commands.specs.Init.{DrawsCryptomator, DrawsVault, MakesVault}
@@ -87,15 +90,36 @@ beside_row command is_own vault work Tests Makes answer before after did overlap
     by true refuses = two_row command answer vault work overlaps memory refuses.answers
     by false makes = elim makes.comes [ inl ends ↦ ended ends.own | inr comes ↦ made comes ]
 
-pub init_row : (new : NewVault) (answer : Answer) (before after : World) → MakesVault new answer before after → Ends (Some (Init new)) answer
+init_row : (new : NewVault) (answer : Answer) (before after : World) → MakesVault new answer before after → Ends (Some (Init new)) answer
 init_row new answer before after did =
     beside_row (Some (Init new)) is_of_readying new.vault new.work _ _ answer before after did.makes refl refl (readying_row new answer)
     (λ founds. subst (Ends (Some (Init new))) (sym founds.is) (founding_row new new.format founds.phrase founds.made founds.files before.random after.random founds.result founds.draws))
 
-pub mkdir_row : (change : Change) (answer : Answer) (before after : World) → MakesDirectoryIn change answer before after → Ends (Some (Mkdir change)) answer
+mkdir_row : (change : Change) (answer : Answer) (before after : World) → MakesDirectoryIn change answer before after → Ends (Some (Mkdir change)) answer
 mkdir_row change answer before after did =
     beside_row (Some (Mkdir change)) is_of_beginning change.target.vault change.work _ _ answer before after did.changes refl refl (directory_begun change answer) (λ there. directory_row change answer there.own)
 
-pub put_row : (change : Change) (answer : Answer) (before after : World) → StoresFile change answer before after → Ends (Some (Put change)) answer
+put_row : (change : Change) (answer : Answer) (before after : World) → StoresFile change answer before after → Ends (Some (Put change)) answer
 put_row change answer before after did =
     beside_row (Some (Put change)) is_of_beginning change.target.vault change.work _ _ answer before after did refl refl (file_begun change answer) (λ there. file_row change answer there.own)
+
+pub init_carried : (new : NewVault) (answer : Answer) (before after : World) (folder input output random : Type 0) → MakesVault new answer before after → (answer ≡ FolderFault → folder) → (answer ≡ RandomFault → random)
+    → CarriesOut (Init new) (MakesVault new) (λ v. ⊤) answer before after folder input output random
+init_carried new answer before after folder input output random did failed undrawn =
+    let ends : Ends (Some (Init new)) answer = init_row new answer before after did in
+    carried (Init new) (MakesVault new) answer before after folder input output random refl did ends
+    (blamed answer folder input output random failed (unnamed (Init new) answer InputFault input ends refl) (unnamed (Init new) answer OutputFault output ends refl) undrawn)
+
+pub mkdir_carried : (change : Change) (answer : Answer) (before after : World) (folder input output random : Type 0) → MakesDirectoryIn change answer before after → (answer ≡ FolderFault → folder) → (answer ≡ RandomFault → random)
+    → CarriesOut (Mkdir change) (MakesDirectoryIn change) (λ v. ⊤) answer before after folder input output random
+mkdir_carried change answer before after folder input output random did failed undrawn =
+    let ends : Ends (Some (Mkdir change)) answer = mkdir_row change answer before after did in
+    carried (Mkdir change) (MakesDirectoryIn change) answer before after folder input output random refl did ends
+    (blamed answer folder input output random failed (unnamed (Mkdir change) answer InputFault input ends refl) (unnamed (Mkdir change) answer OutputFault output ends refl) undrawn)
+
+pub put_carried : (change : Change) (answer : Answer) (before after : World) (folder input output random : Type 0) → StoresFile change answer before after → (answer ≡ FolderFault → folder) → (answer ≡ InputFault → input) → (answer ≡ RandomFault → random)
+    → CarriesOut (Put change) (StoresFile change) (λ v. ⊤) answer before after folder input output random
+put_carried change answer before after folder input output random did failed unread undrawn =
+    let ends : Ends (Some (Put change)) answer = put_row change answer before after did in
+    carried (Put change) (StoresFile change) answer before after folder input output random refl did ends
+    (blamed answer folder input output random failed unread (unnamed (Put change) answer OutputFault output ends refl) undrawn)

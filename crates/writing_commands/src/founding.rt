@@ -1,5 +1,5 @@
 //! `init`: makes a vault.
-ghost use Rattle.std.specs.Prelude.{◌≡◌, ◌⊎◌, ◌≤◌, ℕ, Bool, false, List, Option, Err, Some};
+ghost use Rattle.std.specs.Prelude.{◌≡◌, ◌⊎◌, ◌≤◌, ℕ, Bool, false, List, Option, ⊤, Err};
 ghost use Rattle.folder_spec.specs.Seen.{IfSeen};
 ghost use Rattle.port_model.specs.Counts.{CountRose};
 ghost use Rattle.vault_write.specs.Founding.{MayFound};
@@ -8,8 +8,8 @@ ghost use Rattle.open_for_reading.specs.Places.{overlap};
 ghost use Rattle.writing_commands.specs.Init.{cost_of, FoundsAs, FoundsNew, MakesVault, OfPlace, RefusesPlace};
 ghost use Rattle.open_for_reading.specs.Opening.{IsPhrase};
 ghost use Rattle.open_for_reading.specs.Refusing.{Unless};
+ghost use Rattle.open_for_reading.specs.Carrying.{CarriesOut};
 ghost use Rattle.open_for_reading.specs.World.{World};
-ghost use Rattle.command_answers.specs.Rows.{Ends};
 ghost use Rattle.command_words.specs.declared.commands.Command.TheVariants.{Init};
 
 use crate::faults::answer_to_making;
@@ -21,26 +21,26 @@ use folder_model::Folder;
 use kdf_suite::ScryptCost;
 use open_for_changing::{enter_settled, read_apart};
 use open_for_reading::test_free;
-use port_model::Randoms;
 use port_model::laws::draws_compose;
+use port_model::{Randoms, Sink, Source};
 use std::alloc::Global;
 use vault_write::{PutFault, init_cm, init_cm_combo, init_go};
 use work_folder::Work;
 
 /// Makes a vault where nothing stands.
-pub fn init<F: Folder, R: Randoms>(
+pub fn init<F: Folder, R: Randoms, I: Source, O: Sink>(
     alloc: Global,
     new: &NewVault,
     folder: &mut F,
     random: &mut R,
+    input: &mut I,
+    out: &mut O,
 ) -> Answer
-    // Whatever the input gives and the output took, which it isn't handed.
-    ensures makes { (left : Option (List ℕ)) (ended : Bool) (taken : Option (List ℕ)) → MakesVault new.now result
-        (record { told = F.told folder.old; left = left; ended = ended; taken = taken; random = R.left random.old })
-        (record { told = F.told folder.new; left = left; ended = ended; taken = taken; random = R.left random.new }) }
-    ensures folder_fault { result ≡ Answer.FolderFault → CountRose (F.faults folder.old) (F.faults folder.new) }
-    ensures random_fault { result ≡ Answer.RandomFault → CountRose (R.faults random.old) (R.faults random.new) }
-    ensures row { Ends (Some (Init new.now)) result }
+    ensures { CarriesOut (Init new.now) (MakesVault new.now) (λ v. ⊤) result
+        (record { told = F.told folder.old; left = I.left input.old; ended = I.ended input.old; taken = O.taken out.old; random = R.left random.old })
+        (record { told = F.told folder.new; left = I.left input.new; ended = I.ended input.new; taken = O.taken out.new; random = R.left random.new })
+        (CountRose (F.faults folder.old) (F.faults folder.new)) (CountRose (I.faults input.old) (I.faults input.new))
+        (CountRose (O.faults out.old) (O.faults out.new)) (CountRose (R.faults random.old) (R.faults random.new)) }
 {
     draws_compose();
     match read_apart(alloc, folder, &new.vault, &new.work, &new.pass) {

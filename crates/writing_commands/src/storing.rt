@@ -1,9 +1,9 @@
 //! `put`: stores the input as a file of a vault.
-ghost use Rattle.std.specs.Prelude.{◌≡◌, ℕ, List, Option, Some};
+ghost use Rattle.std.specs.Prelude.{⊤};
 ghost use Rattle.port_model.specs.Counts.{CountRose};
+ghost use Rattle.open_for_reading.specs.Carrying.{CarriesOut};
 ghost use Rattle.open_for_reading.specs.World.{World};
 ghost use Rattle.writing_commands.specs.Put.{StoresFile};
-ghost use Rattle.command_answers.specs.Rows.{Ends};
 ghost use Rattle.command_words.specs.declared.commands.Command.TheVariants.{Put};
 
 use crate::faults::answer_to_making;
@@ -13,26 +13,24 @@ use folder_model::Folder;
 use folder_spec::laws::roots_show_their_own;
 use open_for_changing::begin;
 use port_model::laws::draws_compose;
-use port_model::{Randoms, Source};
+use port_model::{Randoms, Sink, Source};
 use std::alloc::Global;
 use vault_write::SourceContent;
 
 /// Stores the input as a new file, or in the place of the content of a file that stands there.
-pub fn put<F: Folder, R: Randoms, I: Source>(
+pub fn put<F: Folder, R: Randoms, I: Source, O: Sink>(
     alloc: Global,
     change: &Change,
     folder: &mut F,
     random: &mut R,
     input: &mut I,
+    out: &mut O,
 ) -> Answer
-    // Whatever the output took, which it isn't handed.
-    ensures stores { (taken : Option (List ℕ)) → StoresFile change.now result
-        (record { told = F.told folder.old; left = I.left input.old; ended = I.ended input.old; taken = taken; random = R.left random.old })
-        (record { told = F.told folder.new; left = I.left input.new; ended = I.ended input.new; taken = taken; random = R.left random.new }) }
-    ensures folder_fault { result ≡ Answer.FolderFault → CountRose (F.faults folder.old) (F.faults folder.new) }
-    ensures input_fault { result ≡ Answer.InputFault → CountRose (I.faults input.old) (I.faults input.new) }
-    ensures random_fault { result ≡ Answer.RandomFault → CountRose (R.faults random.old) (R.faults random.new) }
-    ensures row { Ends (Some (Put change.now)) result }
+    ensures { CarriesOut (Put change.now) (StoresFile change.now) (λ v. ⊤) result
+        (record { told = F.told folder.old; left = I.left input.old; ended = I.ended input.old; taken = O.taken out.old; random = R.left random.old })
+        (record { told = F.told folder.new; left = I.left input.new; ended = I.ended input.new; taken = O.taken out.new; random = R.left random.new })
+        (CountRose (F.faults folder.old) (F.faults folder.new)) (CountRose (I.faults input.old) (I.faults input.new))
+        (CountRose (O.faults out.old) (O.faults out.new)) (CountRose (R.faults random.old) (R.faults random.new)) }
 {
     draws_compose();
     roots_show_their_own();

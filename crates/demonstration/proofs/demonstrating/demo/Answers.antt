@@ -1,29 +1,31 @@
-use Rattle.std.proofs.Common.{refl, None, false}
+use Rattle.std.proofs.Common.{refl}
 use Rattle.std.proofs.KnownBytes.{Keeps-refl}
+use Rattle.command_answers.specs.declared.answer.Answer.TheVariants.{OutOfMemory}
+use Rattle.open_for_reading.specs.World.{World}
+use Rattle.demonstration.specs.Demo.{Demonstrates}
 use Rattle.demonstration.proofs.Demonstrations.{demonstrates_nothing, none_rose, so_more, steadily, steady_part}
-use Rattle.demonstration.proofs.Rows.{demo_row}
+use Rattle.demonstration.proofs.Rows.{demo_carried}
 use Rattle.demonstration.proofs.demonstrating.demo.Goals as goal
 
-pub returns-in-Err-clause-demonstrates : goal.returns-in-Err-clause-demonstrates
-returns-in-Err-clause-demonstrates g c told left ended random =
-    demonstrates_nothing c.args.demonstration.now (record { told = told; left = left; ended = ended; taken = g.O.Sink.taken c.args.out.now; random = random })
+pub returns-in-Err : goal.returns-in-Err
+returns-in-Err g c =
+    let before : World = record { told = g.F.Folder.told c.args.folder.now; left = g.I.Source.left c.args.input.now; ended = g.I.Source.ended c.args.input.now; taken = g.O.Sink.taken c.args.out.now; random = g.R.Randoms.left c.args.random.now } in
+    demo_carried c.args.demonstration.now OutOfMemory before before _ _ _ _ (demonstrates_nothing c.args.demonstration.now before) (λ is. cc)
 
-pub returns-in-Ok-clause-demonstrates : goal.returns-in-Ok-clause-demonstrates
-returns-in-Ok-clause-demonstrates g c told left ended random =
-    let part = steady_part _ _ c.args.demonstration.now.seed c.args.demonstration.now.count c.in-Ok.ensures in
-    record {
+pub returns-in-Ok : goal.returns-in-Ok
+returns-in-Ok g c =
+    let demonstration = c.args.demonstration.now in
+    let before : World = record { told = g.F.Folder.told c.args.folder.now; left = g.I.Source.left c.args.input.now; ended = g.I.Source.ended c.args.input.now; taken = g.O.Sink.taken c.args.out.now; random = g.R.Randoms.left c.args.random.now } in
+    let after : World = record before { taken = g.O.Sink.taken c.demonstrate.new.out } in
+    let part = steady_part _ _ demonstration.seed demonstration.count c.in-Ok.ensures in
+    let did : Demonstrates demonstration c.demonstrate.result before after = record {
       own = c.demonstrate.ensures.own;
       steady = λ same. none_rose (c.demonstrate.ensures.folder_fault same);
       told = _;
       ends = so_more _ _ part c.demonstrate.result c.demonstrate.ensures.ends;
-      prints = steadily _ _ part _ c.args.demonstration.now.seed c.args.demonstration.now.count c.demonstrate.result (g.O.Sink.taken c.args.out.now) (g.O.Sink.taken c.demonstrate.new.out) c.demonstrate.ensures.prints;
+      prints = steadily _ _ part _ demonstration.seed demonstration.count c.demonstrate.result before.taken after.taken c.demonstrate.ensures.prints;
       unchanged = refl;
-      untouched = Keeps-refl left;
+      untouched = Keeps-refl before.left;
       undrawn = refl;
-    }
-
-pub returns-in-Err-clause-row : goal.returns-in-Err-clause-row
-returns-in-Err-clause-row g c = demo_row _ _ _ _ (returns-in-Err-clause-demonstrates g c None None false None)
-
-pub returns-in-Ok-clause-row : goal.returns-in-Ok-clause-row
-returns-in-Ok-clause-row g c = demo_row _ _ _ _ (returns-in-Ok-clause-demonstrates g c None None false None)
+    } in
+    demo_carried demonstration c.demonstrate.result before after _ _ _ _ did c.demonstrate.ensures.output_fault

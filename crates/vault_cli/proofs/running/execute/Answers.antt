@@ -43,7 +43,7 @@ returns-in-Ok-Some g c =
     let answer = c.execute_command.result in
     let known = sym c.in-Ok-Some.field-0-is ∙ c.in-Ok-Some.ensures.is in
     record {
-      runs = inr (subst (λ command. Executes command answer before after) known c.execute_command.ensures.executes);
+      runs = inr (subst (λ command. Executes command answer before after) known c.execute_command.ensures.does);
       row = subst (λ command. Ends command answer) known c.execute_command.ensures.row;
       told_row = subst (λ command. (v : View) → IsSeen before.told v → OwnsFolders command v → EndsTold command answer) known c.execute_command.ensures.told_row;
       blame = c.execute_command.ensures.blame;

@@ -1,24 +1,29 @@
-use Rattle.std.proofs.Common.{subst, None, false}
+use Rattle.std.proofs.Common.{Err, ap, refl, subst}
+use Rattle.command_answers.specs.declared.answer.Answer.TheVariants.{RandomFault}
+use Rattle.open_for_reading.proofs.Carrying.{by_tests}
+use Rattle.open_for_reading.proofs.Counts.{rose_after}
+use Rattle.open_for_reading.specs.Tests.{is_of_readying}
 use Rattle.open_for_reading.specs.World.{World}
 use Rattle.writing_commands.specs.Init.{MakesVault}
 use Rattle.writing_commands.proofs.MadeVaults.{not_read}
-use Rattle.writing_commands.proofs.Rows.{init_row}
+use Rattle.writing_commands.proofs.Rows.{init_carried}
 use Rattle.writing_commands.proofs.founding.init.Goals as goal
 
-pub returns-in-Ok-clause-makes : goal.returns-in-Ok-clause-makes
-returns-in-Ok-clause-makes g c left ended taken =
-    let after : World = record { told = g.F.Folder.told c.make_apart.new.folder; left = left; ended = ended; taken = taken; random = g.R.Randoms.left c.make_apart.new.random } in
-    subst (λ told. MakesVault c.args.new.now c.make_apart.result (record { told = told; left = left; ended = ended; taken = taken; random = g.R.Randoms.left c.args.random.now }) after)
-    c.read_apart.ensures.told (c.make_apart.ensures.makes left ended taken)
+pub returns-in-Ok : goal.returns-in-Ok
+returns-in-Ok g c =
+    let before : World = record { told = g.F.Folder.told c.args.folder.now; left = g.I.Source.left c.args.input.now; ended = g.I.Source.ended c.args.input.now; taken = g.O.Sink.taken c.args.out.now; random = g.R.Randoms.left c.args.random.now } in
+    let after : World = record { told = g.F.Folder.told c.make_apart.new.folder; left = g.I.Source.left c.args.input.now; ended = g.I.Source.ended c.args.input.now; taken = g.O.Sink.taken c.args.out.now; random = g.R.Randoms.left c.make_apart.new.random } in
+    init_carried c.args.new.now c.make_apart.result before after _ _ _ _
+    (subst (λ told. MakesVault c.args.new.now c.make_apart.result (record before { told = told }) after) c.read_apart.ensures.told (c.make_apart.ensures.makes before.left before.ended before.taken))
+    (λ is. rose_after (g.F.Folder.faults c.args.folder.now) (g.F.Folder.faults c.read_apart.new.folder) (g.F.Folder.faults c.make_apart.new.folder) c.read_apart.ensures.grows (c.make_apart.ensures.folder_fault is))
+    c.make_apart.ensures.random_fault
 
-pub returns-in-Err-clause-makes : goal.returns-in-Err-clause-makes
-returns-in-Err-clause-makes g c left ended taken =
-    not_read c.args.new.now c.in-Err.answer
-    (record { told = g.F.Folder.told c.args.folder.now; left = left; ended = ended; taken = taken; random = g.R.Randoms.left c.args.random.now }) (g.F.Folder.told c.read_apart.new.folder)
-    c.read_apart.ensures.told c.in-Err.ensures.overlapping c.in-Err.ensures.refused c.in-Err.ensures.own
-
-pub returns-in-Ok-clause-row : goal.returns-in-Ok-clause-row
-returns-in-Ok-clause-row g c = init_row _ _ _ _ (returns-in-Ok-clause-makes g c None false None)
-
-pub returns-in-Err-clause-row : goal.returns-in-Err-clause-row
-returns-in-Err-clause-row g c = init_row _ _ _ _ (returns-in-Err-clause-makes g c None false None)
+pub returns-in-Err : goal.returns-in-Err
+returns-in-Err g c =
+    let new = c.args.new.now in
+    let before : World = record { told = g.F.Folder.told c.args.folder.now; left = g.I.Source.left c.args.input.now; ended = g.I.Source.ended c.args.input.now; taken = g.O.Sink.taken c.args.out.now; random = g.R.Randoms.left c.args.random.now } in
+    let after : World = record { told = g.F.Folder.told c.read_apart.new.folder; left = g.I.Source.left c.args.input.now; ended = g.I.Source.ended c.args.input.now; taken = g.O.Sink.taken c.args.out.now; random = g.R.Randoms.left c.args.random.now } in
+    init_carried new c.in-Err.answer before after _ _ _ _
+    (not_read new c.in-Err.answer before after.told c.read_apart.ensures.told c.in-Err.ensures.overlapping c.in-Err.ensures.refused c.in-Err.ensures.own)
+    (λ is. c.in-Err.ensures.failed (ap Err is))
+    (by_tests is_of_readying c.in-Err.answer RandomFault new.vault new.work _ c.in-Err.ensures.overlapping c.in-Err.ensures.own refl refl)

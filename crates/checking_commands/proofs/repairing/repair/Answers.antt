@@ -1,9 +1,9 @@
-use Rattle.std.proofs.Common.{Err, ap, refl, string_bytes, subst, sym, ◌∙◌}
+use Rattle.std.proofs.Common.{Err, ap, inl, inr, refl, string_bytes, subst, sym, ◌∙◌}
 use Rattle.std.proofs.KnownBytes.{Keeps-refl}
 use Rattle.command_answers.specs.Printing.{PrintsText}
 use Rattle.command_answers.specs.declared.answer.Answer.TheVariants.{FolderFault, OutputFault}
 use Rattle.open_for_reading.proofs.Carrying.{by_overlap, by_printing}
-use Rattle.open_for_reading.proofs.Printings.{is_another}
+use Rattle.open_for_reading.proofs.Printings.{IsPrinted, is_another}
 use Rattle.open_for_reading.specs.Tests.{is_of_moving}
 use Rattle.open_for_reading.specs.World.{World}
 use Rattle.checking_commands.proofs.Repairs.{moved_or_cut, not_repaired, repair_printed, repair_refused, repaired_apart}
@@ -37,4 +37,4 @@ returns-in-Ok g c =
     (repaired_apart target c.print.result before after (sym c.do_overlap.ensures ∙ c.if-do_overlap.false) (Keeps-refl before.left) refl
     (repair_printed target (string_bytes c.in-Ok.text) c.print.result before.told after.told before.taken after.taken c.in-Ok.ensures.moved c.in-Ok.ensures.passed c.in-Ok.ensures.moves
     (subst (λ text. PrintsText text c.print.result before.taken after.taken) c.as_str.ensures.value c.print.ensures.prints) c.print.ensures.answers))
-    (by_printing c.print.result FolderFault _ c.print.ensures.answers refl) c.print.ensures.output_fault
+    (by_printing c.print.result FolderFault _ (elim c.print.ensures.answers as (λ _. IsPrinted c.print.result) [ inl done ↦ inl done | inr output ↦ inr (inl output) ]) refl) c.print.ensures.output_fault

@@ -1,4 +1,4 @@
-use Rattle.std.proofs.Common.{◌≡◌, Err, ap, refl, subst, sym, ◌∙◌}
+use Rattle.std.proofs.Common.{None, ◌≡◌, Err, ap, refl, subst, sym, ◌∙◌}
 use Rattle.std.proofs.KnownBytes.{Keeps-refl}
 use Rattle.port_model.specs.Counts.{CountRose}
 use Rattle.command_answers.specs.declared.answer.Answer.TheVariants.{InputFault, RandomFault}

@@ -44,7 +44,7 @@ module _ (from to : OpenedVault) (t t' : Option Told) (v : View) where
       by [] root = let never = was.root root (λ same. cc same) in cc never
       by (name ∷ rest) is =
           let last = child_of_parent (name ∷ rest) (λ none. cc none) in
-          run_refused _ x.drawn (was.named _ last.0 (is ∙ last.1))
+          run_refused _ x.drawn (was.named _ last.0 (is ∙ last.1)).1
 
   made_zeros : (items : List Planned) (made : List MadeItem) → WereAnswered from to t t' v items made (Err (Place put.ZeroRandom)) → HasZeroRun (slices made)
   made_zeros [] [] none = absurd none

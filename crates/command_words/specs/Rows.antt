@@ -18,7 +18,7 @@ pub record Valued : Type 0 where
   pub kind : Kind
 
 -- a command: its name; what its positional words write; its options, each of which stands once; its flags, each of which stands once at
--- most and has no value; what it claims before it changes anything, and the two folders of these that have to be on one file system;
+-- most and has no value; what it claims before it begins, and the two folders of these that have to be on one file system;
 -- whether it prints before all is done; its statuses beside 0 and 3; and those of a folder alone that contradicts itself
 pub record Row : Type 0 where
   pub verb : Verb
@@ -123,7 +123,7 @@ row_of Fsck = record {
   words = FolderPath ∷ [];
   options = pass;
   flags = [];
-  claims = [];
+  claims = Shared (Value 0) ∷ [];
   one_file_system = None;
   streams = false;
   statuses = 1 ∷ 4 ∷ 6 ∷ 8 ∷ 9 ∷ 10 ∷ 11 ∷ 23 ∷ [];

@@ -76,7 +76,7 @@ pub enum Claim {
 }
 
 /// A command: its name, and a line of what it does; its positional words; its options, each of which stands once; its flags, each of which
-/// stands once at most and has no value; what it claims before it changes anything; the two folders that have to be on one file system;
+/// stands once at most and has no value; what it claims before it begins; the two folders that have to be on one file system;
 /// whether it prints before all is done; its statuses beside 0 and 3; and those of a folder alone that contradicts itself.
 #[derive(Clone, Copy, Drop)]
 pub struct Row {
@@ -268,7 +268,7 @@ static ROWS: [Row; 12] = [
         words: &[VAULT],
         options: &[PASS],
         flags: &[],
-        claims: &[],
+        claims: &[Claim::Shared(Place::Value(0))],
         one_file_system: None,
         streams: false,
         statuses: &[1, 4, 6, 8, 9, 10, 11, 23],

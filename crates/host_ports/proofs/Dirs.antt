@@ -74,6 +74,14 @@ was_or_is_noted : (b before seen changed : Bool) → IsTrue before ⊎ IsTrue b 
 was_or_is_noted b before seen changed (inl was) noted = inl was
 was_or_is_noted b before seen changed (inr here) noted = inr (or_is seen changed (noted here))
 
+or_is_second : (x y : Bool) → IsTrue y → IsTrue (x || y)
+or_is_second true y is = refl
+or_is_second false y is = is
+
+was_or_is_second : (b before seen changed : Bool) → IsTrue before ⊎ IsTrue b → (IsTrue b → IsTrue changed) → IsTrue before ⊎ IsTrue (seen || changed)
+was_or_is_second b before seen changed (inl was) noted = inl was
+was_or_is_second b before seen changed (inr here) noted = inr (or_is_second seen changed (noted here))
+
 pub has_more_stays : (old new : List Path) (dir : Path) → HasMore old new dir → (at : Path) → IsTrue (has old at) → IsTrue (has new at)
 has_more_stays old new dir more at is = more_stays (same dir at) (has old at) (has new at) (more at) is
 
@@ -93,6 +101,12 @@ pub sees_change : (a : Dirs) (changed : List Path) (dir : Path) → HasMore a.ch
 sees_change a changed dir more = record {
   stays = λ at. or_second (has a.seen at) (has a.changed at) (has changed at) (more_stays (same dir at) (has a.changed at) (has changed at) (more at));
   first = λ at known. inl known;
+}
+
+pub sees_made : (a : Dirs) (changed known : List Path) (dir : Path) → HasMore a.changed changed dir → HasMore a.known known dir → Sees a (record { known = known; seen = a.seen; changed = changed })
+sees_made a changed known dir more_changed more_known = record {
+  stays = λ at. or_second (has a.seen at) (has a.changed at) (has changed at) (more_stays (same dir at) (has a.changed at) (has changed at) (more_changed at));
+  first = λ at is. was_or_is_second (same dir at) (has a.known at) (has a.seen at) (has changed at) (more_is (same dir at) (has a.known at) (has known at) (more_known at) is) (more_here (same dir at) (has a.changed at) (has changed at) (more_changed at));
 }
 
 pub just_more : (old new : List Path) (dir : Path) → HasMore old new dir → (at : Path) → IsTrue (has new at) → IsTrue (has old at) ⊎ IsTrue (same dir at)

@@ -1,11 +1,12 @@
--- What contracts see of a folder of the machine: which directories a settle has to sync, whether it may change anything, and its
+-- What contracts see of a folder of the machine: which directories a settle has to sync, which calls are barred, what was asked for, and its
 -- count of faults.
-use Rattle.std.specs.Prelude.{◌≡◌, ◌⊎◌, ℕ, Bool, true, List, [], ◌||◌, cond, IsTrue, IsFalse}
+use Rattle.std.specs.Prelude.{◌≡◌, ◌⊎◌, ℕ, Bool, true, false, List, [], ◌||◌, cond, IsTrue, IsFalse}
 use Rattle.std.specs.BTreeMap.{is_at}
 use Rattle.std.specs.List.{All, list_any}
 use Rattle.folder_model.specs.Order.{path_cmp}
 use Rattle.folder_spec.specs.Path.{Path}
 use Rattle.host_ports.specs.Places.{names_entries}
+use Rattle.host_ports.specs.declared.claims.Wanted.{Wanted}
 
 -- the directories of which an entry was seen, and those of them that have to be synced: since an earlier process may have left
 -- something unsynced there, or since their entries changed
@@ -14,10 +15,31 @@ pub record Dirs : Type 0 where
   pub seen : List Path
   pub changed : List Path
 
--- the directories; whether no call may change anything, since a claim isn't had; and how many calls failed
+-- which calls fail from here on: those that change something, settles, and those that look and read
+pub record Bars : Type 0 where
+  pub changes : Bool
+  pub settles : Bool
+  pub reads : Bool
+
+-- no call is barred
+abbrev pub no_bars : Bars
+no_bars = record { changes = false; settles = false; reads = false }
+
+-- what is barred stays so
+pub record KeepsBars (old new : Bars) : Type 0 where
+  pub changes : IsTrue old.changes → IsTrue new.changes
+  pub settles : IsTrue old.settles → IsTrue new.settles
+  pub reads : IsTrue old.reads → IsTrue new.reads
+
+-- nothing is changed and nothing settled any more
+abbrev pub IsStopped : Bars → Type 0
+IsStopped bars = IsTrue bars.changes × IsTrue bars.settles
+
+-- the directories; which calls are barred; which paths were asked for, and how each is to be held; and how many calls failed
 pub record Ground : Type 0 where
   pub dirs : Dirs
-  pub barred : Bool
+  pub barred : Bars
+  pub asked : List Wanted
   pub faults : ℕ
 
 -- two paths are one

@@ -1,12 +1,14 @@
 //! What a run holds for itself while it works, by locks of directories.
 
-use crate::causes::Cause;
+ghost use Rattle.std.specs.Prelude.{◌≡◌, IfOk};
+
+use crate::causes::{Cause, number_of};
 use crate::places::{Node, metadata_at, text_of, up_to};
 use folder_model::FPath;
-use std::alloc::Global;
-use std::fs;
+use std::alloc::{AllocError, Global};
 use std::fs::{File, TryLockError};
 use std::io::ErrorKind;
+use std::{fs, io};
 
 // How often a directory is tried that is exchanged while it is locked.
 const TRIES: u32 = 100;
@@ -25,19 +27,34 @@ pub struct Wanted {
     pub hold: Hold,
 }
 
-// A directory that is held: which one, and the handle with its lock, where it could be opened.
+impl Wanted {
+    pub fn copy(&self) -> Result<Wanted, AllocError>
+        ensures { IfOk result (λ wanted. wanted ≡ self.now) }
+    {
+        let at = self.at.copy()?;
+        Ok(Wanted {
+            at,
+            hold: self.hold,
+        })
+    }
+}
+
+// A directory that is held: which one, and the handle with its lock, where one was had.
 #[derive(Drop)]
 struct Held {
     node: Node,
-    _lock: Option<File>,
+    lock: Option<File>,
 }
 
-// A claimed path: what is held of the directories from the base down to it, as far as they stood.
+// A claimed path: what is held of the directories from the base down to it, as far as they stood, and whether all of that is locked; and
+// whether a settle tested it since which nothing was to change.
 #[derive(Drop)]
 struct Claim {
     at: FPath,
     hold: Hold,
     held: Vec<Held>,
+    locked: bool,
+    fresh: bool,
 }
 
 // What came of one try to lock a directory.
@@ -48,16 +65,18 @@ enum Tried {
     Exchanged,
 }
 
-// The claimed paths, none of which lies in another.
+// The claimed paths, none of which lies in another; and whether another run had taken one of them when something came to stand there.
 #[derive(Drop)]
 pub struct Claims {
     claims: Vec<Claim>,
+    lost: bool,
 }
 
 impl Claims {
     pub fn new(alloc: Global) -> Claims {
         Claims {
             claims: Vec::new(alloc),
+            lost: false,
         }
     }
 
@@ -76,8 +95,10 @@ impl Claims {
             at: wanted.at.copy()?,
             hold: wanted.hold,
             held: Vec::new(alloc),
+            locked: true,
+            fresh: false,
         };
-        claim.renew(rt, alloc, base)?;
+        claim.take_on(rt, alloc, base)?;
         match self.claims.push(claim) {
             Ok(()) => Ok(()),
             Err(_) => Err(Cause::NoMemory),
@@ -88,12 +109,12 @@ impl Claims {
         self.claims.iter().any(|claim| claim.at.starts_with(at) || at.starts_with(&claim.at))
     }
 
-    /// Whether a path is that of a claimed directory that is held, or lies below one.
+    /// Whether a path is that of a claimed directory that is locked, or lies below one.
     pub fn hold(&self, at: &FPath) -> bool {
         self.holding(at).is_some()
     }
 
-    /// Whether a path lies below a claimed directory that is held.
+    /// Whether a path lies below a claimed directory that is locked.
     pub fn hold_above(&self, at: &FPath) -> bool {
         match self.holding(at) {
             Some(claim) => claim.at.depth() < at.depth(),
@@ -101,15 +122,41 @@ impl Claims {
         }
     }
 
-    // The claim of a directory that is held, at a path or above it. There is one at most, since none lies in another.
+    // The claim of a directory that is locked, at a path or above it. There is one at most, since none lies in another.
     fn holding(&self, at: &FPath) -> Option<&Claim> {
         self.claims
             .iter()
-            .find(|claim| claim.is_held() && at.starts_with(&claim.at))
+            .find(|claim| claim.is_locked() && at.starts_with(&claim.at))
     }
 
-    /// Sees to it that what stands now at each claimed path at or above this one is held.
-    pub fn renew(
+    /// Whether a path is claimed itself.
+    pub fn are_at(&self, at: &FPath) -> bool {
+        self.claims.iter().any(|claim| claim.at.is(at))
+    }
+
+    /// Whether a path is claimed, or lies below one that is.
+    pub fn cover(&self, at: &FPath) -> bool {
+        self.claims.iter().any(|claim| at.starts_with(&claim.at))
+    }
+
+    /// Whether a path is one that is claimed and at which nothing has been taken yet, or lies below one.
+    pub fn lack(&self, at: &FPath) -> bool {
+        self.claims
+            .iter()
+            .any(|claim| !claim.is_taken() && at.starts_with(&claim.at))
+    }
+
+    /// The claimed path at which this directory is held.
+    pub fn path_of(&self, node: Node) -> Option<&FPath> {
+        let claim = self
+            .claims
+            .iter()
+            .find(|claim| claim.is_taken() && claim.last() == Some(node))?;
+        Some(&claim.at)
+    }
+
+    /// Takes what has come to stand at the claimed paths at or above this one. Where another run has it, nothing may be changed any more.
+    pub fn take_on(
         &mut self,
         rt: &HostRuntime,
         alloc: Global,
@@ -117,11 +164,56 @@ impl Claims {
         at: &FPath,
     ) -> Result<(), Cause> {
         for claim in self.claims.as_mut_slice() {
-            if at.starts_with(&claim.at) {
-                claim.renew(rt, alloc, base)?;
+            if at.starts_with(&claim.at) && !claim.is_taken() {
+                match claim.take_on(rt, alloc, base) {
+                    Err(Cause::Held) => self.lost = true,
+                    answer => answer?,
+                }
             }
         }
         Ok(())
+    }
+
+    /// Sees to it that what stands now at each claimed path at or above this one is held, and that it is what was held first.
+    pub fn renew(
+        &mut self,
+        rt: &HostRuntime,
+        alloc: Global,
+        base: &str,
+        at: &FPath,
+    ) -> Result<(), Cause> {
+        self.take_on(rt, alloc, base, at)?;
+        if self.lost {
+            return Err(Cause::Held);
+        }
+        for claim in self.claims.as_mut_slice() {
+            if at.starts_with(&claim.at) && !claim.fresh {
+                claim.test(rt, alloc, base)?;
+            }
+            claim.fresh = false;
+        }
+        Ok(())
+    }
+
+    /// Tests that at each path that is claimed alone still stands what is held.
+    pub fn test(&mut self, rt: &HostRuntime, alloc: Global, base: &str) -> Result<(), Cause> {
+        for claim in self.claims.as_mut_slice() {
+            if claim.is_alone() {
+                claim.test(rt, alloc, base)?;
+                claim.fresh = true;
+            }
+        }
+        Ok(())
+    }
+
+    /// The claimed path at which what is held doesn't stand any more.
+    pub fn gone(&self, rt: &HostRuntime, alloc: Global, base: &str) -> Option<&FPath> {
+        for claim in self.claims.as_slice() {
+            if let Err(Cause::Exchanged) = claim.test(rt, alloc, base) {
+                return Some(&claim.at);
+            }
+        }
+        None
     }
 
     /// Holds the directory that was made at this path, if it is a claimed one.
@@ -132,22 +224,25 @@ impl Claims {
         base: &str,
         at: &FPath,
     ) -> Result<(), Cause> {
-        for claim in self.claims.as_mut_slice() {
-            if claim.at.is(at) {
-                claim.renew(rt, alloc, base)?;
-            }
+        if self.are_at(at) {
+            self.take_on(rt, alloc, base, at)?;
         }
-        Ok(())
+        if self.lost { Err(Cause::Held) } else { Ok(()) }
     }
 
     /// Holds the directory at a text, which is to be moved onto a claimed path.
     pub fn hold_moved(&mut self, rt: &HostRuntime, text: &str, to: &FPath) -> Result<(), Cause> {
         for claim in self.claims.as_mut_slice() {
-            if claim.at.is(to) {
+            if claim.at.is(to) && claim.held.len() == claim.at.depth() {
                 claim.hold_next(rt, text)?;
             }
         }
         Ok(())
+    }
+
+    /// Ends the claims at and below a path that this run has moved or removed.
+    pub fn end_below(&mut self, at: &FPath) {
+        self.claims.retain(|claim| !claim.at.starts_with(at));
     }
 
     /// The device of the directory that stands at a claimed path, or else of the nearest one above it.
@@ -159,18 +254,55 @@ impl Claims {
 
 impl Claim {
     // Whether the directory at the path itself is held, and not only ones above it.
-    fn is_held(&self) -> bool {
+    fn is_taken(&self) -> bool {
         self.held.len() > self.at.depth()
     }
 
-    // Holds what stands at the path now, and above it. Where another directory stands at the path than the one that is held, all is
-    // let go and held anew.
-    fn renew(&mut self, rt: &HostRuntime, alloc: Global, base: &str) -> Result<(), Cause> {
-        if self.is_held() {
-            if self.stands(rt, alloc, base)? {
-                return Ok(());
-            }
-            self.held.clear();
+    fn is_locked(&self) -> bool {
+        self.locked && self.is_taken()
+    }
+
+    fn is_alone(&self) -> bool {
+        match self.hold {
+            Hold::Alone => true,
+            Hold::Shared => false,
+        }
+    }
+
+    // The directory that is held last.
+    fn last(&self) -> Option<Node> {
+        self.held.last().map(|held| held.node)
+    }
+
+    // Tests that what is held at the path still stands there.
+    fn test(&self, rt: &HostRuntime, alloc: Global, base: &str) -> Result<(), Cause> {
+        if self.is_taken() {
+            self.test_last(rt, alloc, base, self.at.depth())
+        } else {
+            Ok(())
+        }
+    }
+
+    // Tests that the directory that is held last stands this deep on the way to the path.
+    fn test_last(
+        &self,
+        rt: &HostRuntime,
+        alloc: Global,
+        base: &str,
+        depth: usize,
+    ) -> Result<(), Cause> {
+        let text = text_of(alloc, base, up_to(self.at.parts(), depth))?;
+        if node_at(rt, text.as_str(), depth)? == self.last() {
+            Ok(())
+        } else {
+            Err(Cause::Exchanged)
+        }
+    }
+
+    // Holds what stands at the path and above it, as far as it isn't held yet.
+    fn take_on(&mut self, rt: &HostRuntime, alloc: Global, base: &str) -> Result<(), Cause> {
+        if let Some(above) = self.held.len().checked_sub(1) {
+            self.test_last(rt, alloc, base, above)?;
         }
         for depth in self.held.len()..=self.at.depth() {
             let text = text_of(alloc, base, up_to(self.at.parts(), depth))?;
@@ -179,13 +311,6 @@ impl Claim {
             }
         }
         Ok(())
-    }
-
-    // Whether the directory that is held last stands at the path.
-    fn stands(&self, rt: &HostRuntime, alloc: Global, base: &str) -> Result<bool, Cause> {
-        let text = text_of(alloc, base, self.at.parts())?;
-        let there = node_at(rt, text.as_str(), self.at.depth())?;
-        Ok(there == self.held.last().map(|held| held.node))
     }
 
     // Holds the directory at a text, which is the next one on the way to the path; `false` where none stands there.
@@ -197,10 +322,13 @@ impl Claim {
             self.hold
         };
         match lock(rt, text, depth, hold)? {
-            Some(held) => match self.held.push(held) {
-                Ok(()) => Ok(true),
-                Err(_) => Err(Cause::NoMemory),
-            },
+            Some(held) => {
+                self.locked = self.locked && held.lock.is_some();
+                match self.held.push(held) {
+                    Ok(()) => Ok(true),
+                    Err(_) => Err(Cause::NoMemory),
+                }
+            }
             None => Ok(false),
         }
     }
@@ -238,13 +366,13 @@ fn try_lock(rt: &HostRuntime, text: &str, depth: usize, hold: Hold) -> Result<Tr
     };
     let file = match fs::open(rt, text) {
         Ok(file) => file,
-        Err(error) => return unopened(node, error.kind()),
+        Err(error) => return unopened(node, &error),
     };
-    take(&file, hold)?;
+    let is_locked = take(&file, hold)?;
     if Node::of(&file.metadata()?) == node && node_at(rt, text, depth)? == Some(node) {
         Ok(Tried::Held(Held {
             node,
-            _lock: Some(file),
+            lock: if is_locked { Some(file) } else { None },
         }))
     } else {
         Ok(Tried::Exchanged)
@@ -252,23 +380,24 @@ fn try_lock(rt: &HostRuntime, text: &str, depth: usize, hold: Hold) -> Result<Tr
 }
 
 // What comes of a directory that isn't opened. One that may not be read can't be locked.
-fn unopened(node: Node, kind: ErrorKind) -> Result<Tried, Cause> {
-    match kind {
+fn unopened(node: Node, error: &io::Error) -> Result<Tried, Cause> {
+    match error.kind() {
         ErrorKind::NotFound | ErrorKind::NotADirectory => Ok(Tried::Exchanged),
-        ErrorKind::PermissionDenied => Ok(Tried::Held(Held { node, _lock: None })),
+        ErrorKind::PermissionDenied => Ok(Tried::Held(Held { node, lock: None })),
         ErrorKind::OutOfMemory => Err(Cause::NoMemory),
-        kind => Err(Cause::Machine(kind)),
+        kind => Err(Cause::Machine(kind, number_of(error))),
     }
 }
 
-// Takes the lock of an open directory, unless another run has it. Some file systems have no locks.
-fn take(file: &File, hold: Hold) -> Result<(), Cause> {
+// Takes the lock of an open directory, unless another run has it: whether there is one, since some file systems have no locks.
+fn take(file: &File, hold: Hold) -> Result<bool, Cause> {
     let taken = match hold {
         Hold::Alone => file.try_lock(),
         Hold::Shared => file.try_lock_shared(),
     };
     match taken {
+        Ok(()) => Ok(true),
         Err(TryLockError::WouldBlock) => Err(Cause::Held),
-        _ => Ok(()),
+        Err(_) => Ok(false),
     }
 }

@@ -5,7 +5,10 @@ ghost use Rattle.std.specs.Prelude.{◌≡◌, None};
 use crate::pieces::fill;
 use port_model::{RandomFault, Randoms};
 use std::fs;
+use std::os::unix::fs::FileTypeExt;
 use std::rt::Runtime;
+
+const PLACE: &str = "/dev/urandom";
 
 /// The random bytes that the machine gives at `/dev/urandom`, which is opened at the first call. It tells nothing of them.
 #[derive(Drop)]
@@ -45,14 +48,23 @@ impl<R: Runtime> Randoms for HostRandoms<R> {
     }
 }
 
+// Opens the device of random bytes, if it is one.
+fn opened<R: Runtime>(rt: &R) -> Result<R::File, RandomFault> {
+    match fs::metadata(rt, PLACE) {
+        Ok(metadata) if metadata.file_type().is_char_device() => {}
+        _ => return Err(RandomFault),
+    }
+    match fs::open(rt, PLACE) {
+        Ok(open) => Ok(open),
+        Err(_) => Err(RandomFault),
+    }
+}
+
 // Fills `out` with bytes of the file, opened first where it isn't yet.
 fn draw<R: Runtime>(rt: &R, file: &mut Option<R::File>, out: &mut [u8]) -> Result<(), RandomFault> {
     let mut open = match file.take() {
         Some(open) => open,
-        None => match fs::open(rt, "/dev/urandom") {
-            Ok(open) => open,
-            Err(_) => return Err(RandomFault),
-        },
+        None => opened(rt)?,
     };
     match fill(&mut open, out) {
         Ok(count) if count == out.len() => {

@@ -11,11 +11,13 @@ mod host_randoms;
 mod kinds;
 mod listed;
 mod listing;
+mod mounts;
 mod noted;
 mod pieces;
 mod places;
 mod plain;
 mod sign_of_life;
+mod watched;
 
 pub use causes::{Cause, Trouble};
 pub use claims::{Hold, Wanted};

@@ -23,7 +23,20 @@ pub fn entries_of(rt: &HostRuntime, alloc: Global, text: &str) -> Result<Vec<Ent
         add_found(alloc, &mut entries, entry)?;
     }
     sort(entries.as_mut_slice());
+    if has_twins(entries.as_slice()) {
+        return Err(Cause::NameTwice);
+    }
     Ok(entries)
+}
+
+// Whether two neighbours have one name: a directory that changes while it is listed, or a damaged one, may show one twice.
+fn has_twins(entries: &[Entry]) -> bool {
+    for (one, next) in entries.iter().zip(entries.iter().skip(1)) {
+        if one.name.as_str() == next.name.as_str() {
+            return true;
+        }
+    }
+    false
 }
 
 // Adds an entry that was found.

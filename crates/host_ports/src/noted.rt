@@ -16,15 +16,18 @@ use std::ops::Bound;
 // How many of the known directories are compared first, before they are searched.
 const MOST: usize = 8;
 
-/// The directories of which this process has seen entries, and those of them that still have to be synced: since it saw
-/// what an earlier process may have left unsynced there, or since it changed their entries.
+/// The directories of which this process has seen entries or that it made, and those of them that still have to be synced: since it saw
+/// what an earlier process may have left unsynced there, or since it made them or changed their entries. Of the first kind those are due
+/// that weren't synced yet; of the second some have lost an entry to another directory.
 #[derive(Drop)]
 pub struct Noted {
     alloc: Global,
     known: BTreeSet<FPath, Global>,
     lately: Vec<FPath>,
     seen: BTreeSet<FPath, Global>,
+    due: BTreeSet<FPath, Global>,
     changed: BTreeSet<FPath, Global>,
+    lost: BTreeSet<FPath, Global>,
 }
 
 impl Model for Noted {
@@ -46,7 +49,9 @@ impl Noted {
             known: BTreeSet::new(alloc),
             lately: Vec::new(alloc),
             seen: BTreeSet::new(alloc),
+            due: BTreeSet::new(alloc),
             changed: BTreeSet::new(alloc),
+            lost: BTreeSet::new(alloc),
         }
     }
 
@@ -123,6 +128,7 @@ impl Noted {
         if self.known.contains(dir) {
             return Ok(());
         }
+        add(&mut self.due, dir)?;
         add(&mut self.seen, dir)?;
         add(&mut self.known, dir)?;
         Ok(())
@@ -168,6 +174,37 @@ impl Noted {
         Ok(())
     }
 
+    /// Notes a directory that was made. What this process finds in it later is its own.
+    #[tactic(auto, using(crate::proofs::Dirs::sees_same, crate::proofs::Dirs::sees_after))]
+    pub fn make(&mut self, dir: FPath) -> Result<(), AllocError>
+        ensures sees { Sees self.old self.new }
+        ensures changed { OnOk result (IsTrue (has self.new.changed dir)) }
+        ensures keeps { (at : Path) → IsTrue (has self.old.changed at) → IsTrue (has self.new.changed at) }
+    {
+        add(&mut self.changed, &dir)?;
+        put(&mut self.known, dir)?;
+        Ok(())
+    }
+
+    /// Notes that a directory whose entries change loses one to another directory.
+    pub fn lose(&mut self, dir: FPath) -> Result<(), AllocError>
+        ensures { self.new ≡ self.old }
+    {
+        put(&mut self.lost, dir)
+    }
+
+    /// Whether a directory whose entries changed has lost one to another.
+    pub fn has_lost(&self, dir: &FPath) -> bool {
+        self.lost.contains(dir)
+    }
+
+    /// Of the directories of which entries were seen, none has to be synced any more but for what this process changes.
+    pub fn let_go_of_due(&mut self)
+        ensures { self.new ≡ self.old }
+    {
+        self.due.clear();
+    }
+
     /// Lets go of what is noted, once it is synced.
     pub fn let_go(&mut self)
         ensures seen { self.new.seen ≡ [] }
@@ -175,7 +212,9 @@ impl Noted {
         ensures known { self.new.known ≡ self.old.known }
     {
         self.seen.clear();
+        self.due.clear();
         self.changed.clear();
+        self.lost.clear();
     }
 
     /// Forgets a directory that is removed.
@@ -187,6 +226,8 @@ impl Noted {
         self.known.remove(dir);
         self.seen.remove(dir);
         self.changed.remove(dir);
+        self.due.remove(dir);
+        self.lost.remove(dir);
     }
 
     /// Forgets of which directories entries were seen.
@@ -229,11 +270,9 @@ impl Noted {
         &self.changed
     }
 
-    /// The directories of which entries were seen.
-    pub fn seen(&self) -> &BTreeSet<FPath, Global>
-        ensures { result.now.keys ≡ self.now.seen }
-    {
-        &self.seen
+    /// The directories of which entries were seen and that weren't synced since.
+    pub fn due(&self) -> &BTreeSet<FPath, Global> {
+        &self.due
     }
 }
 

@@ -3,8 +3,9 @@
 ghost use Rattle.std.specs.Prelude.{◌≤◌, IfErr, IfOk, length};
 ghost use Rattle.host_ports.specs.Causes.{IsFailure};
 
-use crate::causes::Cause;
+use crate::causes::{Cause, number_of};
 use std::fs::File;
+use std::io;
 use std::io::{ErrorKind, Read, Write};
 use std::os::unix::fs::FileExt;
 
@@ -15,10 +16,10 @@ pub fn fill<F: Read>(file: &mut F, out: &mut [u8]) -> Result<usize, Cause>
 {
     let mut count = 0;
     while count < out.len() {
-        match file.read(&mut out[count..]) {
+        match read_again(file, &mut out[count..]) {
             Ok(0) => break,
             Ok(n) => count += n,
-            Err(error) => return Err(Cause::Machine(error.kind())),
+            Err(error) => return Err(Cause::Machine(error.kind(), number_of(&error))),
         }
     }
     Ok(count)
@@ -31,10 +32,14 @@ pub fn fill_from(file: &File, start: u64, out: &mut [u8]) -> Result<usize, Cause
 {
     let mut filled = 0;
     while filled < out.len() {
-        match file.read_at(&mut out[filled..], start.saturating_add(filled as u64)) {
+        match read_at_again(
+            file,
+            &mut out[filled..],
+            start.saturating_add(filled as u64),
+        ) {
             Ok(0) => break,
             Ok(n) => filled += n,
-            Err(error) => return Err(Cause::Machine(error.kind())),
+            Err(error) => return Err(Cause::Machine(error.kind(), number_of(&error))),
         }
     }
     Ok(filled)
@@ -46,11 +51,71 @@ pub fn put<W: Write>(file: &mut W, piece: &[u8]) -> Result<(), Cause>
 {
     let mut at = 0;
     while at < piece.len() {
-        match file.write(&piece[at..]) {
-            Ok(0) => return Err(Cause::Machine(ErrorKind::WriteZero)),
+        match write_again(file, &piece[at..]) {
+            Ok(0) => return Err(Cause::Machine(ErrorKind::WriteZero, 0)),
             Ok(n) => at += n,
-            Err(error) => return Err(Cause::Machine(error.kind())),
+            Err(error) => return Err(Cause::Machine(error.kind(), number_of(&error))),
         }
     }
     Ok(())
+}
+
+// How often a call is made that is interrupted each time.
+const TRIES: u32 = 64;
+
+fn is_interrupted<T>(answer: &io::Result<T>) -> bool {
+    match answer {
+        Err(error) => error.kind() == ErrorKind::Interrupted,
+        Ok(_) => false,
+    }
+}
+
+// Reads once, and again where that is interrupted.
+fn read_again<F: Read>(file: &mut F, out: &mut [u8]) -> io::Result<usize>
+    ensures { IfOk result (λ n. n ≤ length out.old) }
+{
+    for _ in 1..TRIES {
+        let answer = file.read(out);
+        if !is_interrupted(&answer) {
+            return answer;
+        }
+    }
+    file.read(out)
+}
+
+// Reads once from a place on, and again where that is interrupted.
+fn read_at_again(file: &File, out: &mut [u8], start: u64) -> io::Result<usize>
+    ensures { IfOk result (λ n. n ≤ length out.old) }
+{
+    for _ in 1..TRIES {
+        let answer = file.read_at(out, start);
+        if !is_interrupted(&answer) {
+            return answer;
+        }
+    }
+    file.read_at(out, start)
+}
+
+// Writes once, and again where that is interrupted.
+fn write_again<W: Write>(file: &mut W, piece: &[u8]) -> io::Result<usize>
+    ensures { IfOk result (λ n. n ≤ length piece.now) }
+{
+    for _ in 1..TRIES {
+        let answer = file.write(piece);
+        if !is_interrupted(&answer) {
+            return answer;
+        }
+    }
+    file.write(piece)
+}
+
+// Syncs a file or directory that is open, and again where that is interrupted.
+pub fn sync_again(file: &File) -> io::Result<()> {
+    for _ in 1..TRIES {
+        let answer = file.sync_all();
+        if !is_interrupted(&answer) {
+            return answer;
+        }
+    }
+    file.sync_all()
 }

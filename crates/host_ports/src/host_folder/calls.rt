@@ -10,16 +10,21 @@ ghost use Rattle.folder_spec.specs.declared.FolderFault.TheVariants.{Failed};
 ghost use Rattle.folder_spec.specs.declared.Kind.TheVariants.{Missing};
 ghost use Rattle.folder_model.specs.Answers.{Counts, KeepsUnlessRun};
 ghost use Rattle.host_ports.specs.Causes.{fault_by};
-ghost use Rattle.host_ports.specs.Calls.{ChangesAt, HeedsBar, LooksAt};
-ghost use Rattle.host_ports.specs.Noted.{IsJust, IsSettled, Sees, SeesBut, has};
+ghost use Rattle.host_ports.specs.Calls.{ChangesAt, HeedsBars, HeedsReads, LooksAt, StopsBars};
+ghost use Rattle.host_ports.specs.Noted.{IsJust, IsSettled, IsStopped, KeepsBars, Sees, SeesBut, has};
 ghost use Rattle.host_ports.specs.Places.{names_entries};
 
 use crate::causes::{Cause, Trouble, fault_of};
+use crate::claims::Claims;
+use crate::handles::Handles;
 use crate::host_folder::HostFolder;
+use crate::kinds::Kinds;
 use folder_model::{Entry, FPath, Folder, FolderFault, Kind};
 
 impl HostFolder {
-    // The answer to a call: it is counted where it failed or was refused, and the cause is kept, with the path that the call had.
+    // The answer to a call: it is counted where it failed or was refused, and the cause is kept, with the path that the call had. Some causes
+    // bar later calls.
+    #[tactic(auto, using(crate::proofs::Bars::keeps_same, crate::proofs::Bars::keeps_after, crate::proofs::Bars::keeps_with))]
     fn answered<T>(
         &mut self,
         at: Option<&FPath>,
@@ -29,10 +34,10 @@ impl HostFolder {
         ensures ok { IfOk answer (λ value. result ≡ Ok value) }
         ensures err { IfErr answer (λ cause. result ≡ Err (fault_by cause)) }
         ensures dirs { self.new.dirs ≡ self.old.dirs }
-        ensures barred { self.new.barred ≡ self.old.barred }
+        ensures keeps { KeepsBars self.old.barred self.new.barred }
     {
-        if let (Some(at), Err(cause)) = (at, &answer) {
-            self.keep_trouble(Trouble::new(at, *cause));
+        if let Err(cause) = &answer {
+            self.heed(at, *cause);
         }
         self.life.beat(&self.rt, self.alloc);
         let faults = self.faults;
@@ -46,6 +51,58 @@ impl HostFolder {
                 Err(fault)
             }
         }
+    }
+
+    // The same of a call that makes changes last. Where it fails, what this process changed may be lost, whatever a later one answers.
+    #[tactic(auto, using(crate::proofs::Bars::keeps_same, crate::proofs::Bars::keeps_after, crate::proofs::Bars::keeps_with))]
+    fn settled(&mut self, at: Option<&FPath>, answer: Result<(), Cause>) -> Result<(), FolderFault>
+        ensures counts { Counts None self.old.faults self.new.faults result }
+        ensures ok { IfOk answer (λ value. result ≡ Ok value) }
+        ensures err { IfErr answer (λ cause. result ≡ Err (fault_by cause)) }
+        ensures dirs { self.new.dirs ≡ self.old.dirs }
+        ensures keeps { KeepsBars self.old.barred self.new.barred }
+        ensures stops { result ≡ Err Failed → IsStopped self.new.barred }
+    {
+        let result = self.answered(at, answer);
+        if result == Err(FolderFault::Failed) {
+            self.stop();
+        }
+        result
+    }
+
+    // Keeps why a call failed, and bars what this cause bars.
+    #[tactic(auto, using(crate::proofs::Bars::keeps_same, crate::proofs::Bars::keeps_after, crate::proofs::Bars::keeps_with))]
+    fn heed(&mut self, at: Option<&FPath>, cause: Cause)
+        ensures keeps { KeepsBars self.old.barred self.new.barred }
+        ensures dirs { self.new.dirs ≡ self.old.dirs }
+        ensures faults { self.new.faults ≡ self.old.faults }
+    {
+        if let (Some(at), false) = (at, cause.is_told()) {
+            self.keep_trouble(Trouble::new(at, cause));
+        }
+        match cause {
+            Cause::Exchanged => self.let_go(),
+            Cause::Unsynced(_, _) => self.stop(),
+            Cause::Held => self.barred = true,
+            _ => {}
+        }
+    }
+
+    // Stops, and lets go of all that is kept by its path, since something else stands there.
+    #[tactic(auto, using(crate::proofs::Bars::keeps_same, crate::proofs::Bars::keeps_after, crate::proofs::Bars::keeps_with))]
+    fn let_go(&mut self)
+        ensures keeps { KeepsBars self.old.barred self.new.barred }
+        ensures dirs { self.new.dirs ≡ self.old.dirs }
+        ensures faults { self.new.faults ≡ self.old.faults }
+    {
+        let gone = self.claims.gone(&self.rt, self.alloc, self.base.as_str());
+        if let Some(trouble) = gone.map(|at| Trouble::new(at, Cause::Exchanged)) {
+            self.keep_trouble(trouble);
+        }
+        self.claims = Claims::new(self.alloc);
+        self.handles = Handles::new();
+        self.kinds = Kinds::new(self.alloc);
+        self.stop();
     }
 }
 
@@ -62,7 +119,7 @@ impl Folder for HostFolder {
         ensures counts { Counts None self.old.faults self.new.faults result }
         ensures looks { LooksAt at.now self.old.dirs self.new.dirs result }
         ensures known { IfOk result (λ kind. kind ≢ Missing → IsTrue (has self.new.dirs.known (parent at.now))) }
-        ensures bar { self.new.barred ≡ self.old.barred }
+        ensures bar { HeedsReads Failed self.old self.new result }
     {
         let answer = self.kind_of(at);
         self.answered(Some(at), answer)
@@ -73,7 +130,7 @@ impl Folder for HostFolder {
         ensures looks { LooksAt at.now self.old.dirs self.new.dirs result }
         ensures sorted { IfOk result (λ entries. IsSortedByKey (λ (entry : Item). entry.name) (slice_cmp nat_cmp) entries.items) }
         ensures known { OnOk result (IsTrue (has self.new.dirs.known at.now)) }
-        ensures bar { self.new.barred ≡ self.old.barred }
+        ensures bar { HeedsReads Failed self.old self.new result }
     {
         let answer = self.entries(at);
         self.answered(Some(at), answer)
@@ -84,7 +141,7 @@ impl Folder for HostFolder {
         ensures looks { LooksAt at.now self.old.dirs self.new.dirs result }
         ensures within { IfOk result (λ n. n ≤ length out.old) }
         ensures unread { KeepsUnlessRun result (out.new ≡ out.old) }
-        ensures bar { self.new.barred ≡ self.old.barred }
+        ensures bar { HeedsReads Failed self.old self.new result }
     {
         let answer = self.bytes(at, start, out);
         if let Ok(count) = &answer {
@@ -96,7 +153,8 @@ impl Folder for HostFolder {
     fn make_dir(&mut self, at: &FPath) -> Result<(), FolderFault>
         ensures counts { Counts None self.old.faults self.new.faults result }
         ensures changes { ChangesAt at.now self.old.dirs self.new.dirs result }
-        ensures bar { HeedsBar Failed self.old self.new result }
+        ensures made { OnOk result (IsTrue (has self.new.dirs.changed at.now)) }
+        ensures bar { HeedsBars Failed self.old self.new result }
     {
         let answer = self.add_dir(at);
         self.answered(Some(at), answer)
@@ -105,7 +163,7 @@ impl Folder for HostFolder {
     fn create(&mut self, at: &FPath) -> Result<(), FolderFault>
         ensures counts { Counts None self.old.faults self.new.faults result }
         ensures changes { ChangesAt at.now self.old.dirs self.new.dirs result }
-        ensures bar { HeedsBar Failed self.old self.new result }
+        ensures bar { HeedsBars Failed self.old self.new result }
     {
         let answer = self.add_file(at);
         self.answered(Some(at), answer)
@@ -114,7 +172,7 @@ impl Folder for HostFolder {
     fn append(&mut self, at: &FPath, piece: &[u8]) -> Result<(), FolderFault>
         ensures counts { Counts None self.old.faults self.new.faults result }
         ensures looks { LooksAt at.now self.old.dirs self.new.dirs result }
-        ensures bar { HeedsBar Failed self.old self.new result }
+        ensures bar { HeedsBars Failed self.old self.new result }
     {
         let answer = self.grow(at, piece);
         self.life.count_written(piece.len());
@@ -124,10 +182,10 @@ impl Folder for HostFolder {
     fn sync(&mut self, at: &FPath) -> Result<(), FolderFault>
         ensures counts { Counts None self.old.faults self.new.faults result }
         ensures looks { LooksAt at.now self.old.dirs self.new.dirs result }
-        ensures bar { HeedsBar Failed self.old self.new result }
+        ensures bar { StopsBars Failed self.old.barred.changes self.old self.new result }
     {
         let answer = self.sync_file(at);
-        self.answered(Some(at), answer)
+        self.settled(Some(at), answer)
     }
 
     fn settle(&mut self) -> Result<(), FolderFault>
@@ -135,10 +193,10 @@ impl Folder for HostFolder {
         ensures settled { OnOk result (IsSettled self.new.dirs) }
         ensures kept { OnErr result (self.new.dirs ≡ self.old.dirs) }
         ensures known { self.new.dirs.known ≡ self.old.dirs.known }
-        ensures bar { HeedsBar Failed self.old self.new result }
+        ensures bar { StopsBars Failed self.old.barred.settles self.old self.new result }
     {
         let answer = self.settle_now();
-        self.answered(None, answer)
+        self.settled(None, answer)
     }
 
     fn rename(&mut self, old: &FPath, new: &FPath) -> Result<(), FolderFault>
@@ -146,7 +204,7 @@ impl Folder for HostFolder {
         ensures names { OnOk result (IsTrue (names_entries old.now) × IsTrue (names_entries new.now)) }
         ensures changed { OnOk result (IsTrue (has self.new.dirs.changed (parent old.now)) × IsTrue (has self.new.dirs.changed (parent new.now))) }
         ensures sees { Sees self.old.dirs self.new.dirs ⊎ IsJust self.new.dirs (parent old.now) (parent new.now) }
-        ensures bar { HeedsBar Failed self.old self.new result }
+        ensures bar { HeedsBars Failed self.old self.new result }
     {
         let answer = self.rename_now(old, new);
         self.answered(Some(new), answer)
@@ -155,7 +213,7 @@ impl Folder for HostFolder {
     fn remove_file(&mut self, at: &FPath) -> Result<(), FolderFault>
         ensures counts { Counts None self.old.faults self.new.faults result }
         ensures changes { ChangesAt at.now self.old.dirs self.new.dirs result }
-        ensures bar { HeedsBar Failed self.old self.new result }
+        ensures bar { HeedsBars Failed self.old self.new result }
     {
         let answer = self.remove_file_now(at);
         self.answered(Some(at), answer)
@@ -166,7 +224,7 @@ impl Folder for HostFolder {
         ensures names { OnOk result (IsTrue (names_entries at.now)) }
         ensures changed { OnOk result (IsTrue (has self.new.dirs.changed (parent at.now))) }
         ensures sees { SeesBut at.now self.old.dirs self.new.dirs }
-        ensures bar { HeedsBar Failed self.old self.new result }
+        ensures bar { HeedsBars Failed self.old self.new result }
     {
         let answer = self.remove_dir_now(at);
         self.answered(Some(at), answer)

@@ -56,6 +56,7 @@ impl HostFolder {
         ensures faults { self.new.faults ≡ self.old.faults }
     {
         let above = at.parent()?;
+        self.watched.forget(&above);
         self.noted.change(above)
     }
 
@@ -94,12 +95,15 @@ impl HostFolder {
 
     pub(super) fn add_dir(&mut self, at: &FPath) -> Result<(), Cause>
         ensures changes { ChangesAt at.now self.old.dirs self.new.dirs result }
+        ensures made { OnOk result (IsTrue (has self.new.dirs.changed at.now)) }
         ensures bar { HeedsBar Cause.Held self.old self.new result }
         ensures faults { self.new.faults ≡ self.old.faults }
     {
         let text = self.make_room(at)?;
+        let made = at.copy()?;
         self.forget_below(at, None);
         create_dir(&self.rt, text.as_str())?;
+        self.noted.make(made)?;
         self.keep_new_dir(at)
     }
 
@@ -207,6 +211,8 @@ impl HostFolder {
         }
         let text = self.make_room(at)?;
         fs::remove_dir(&self.rt, text.as_str())?;
+        self.claims.end_below(at);
+        self.watched.forget(at);
         self.forget_below(at, Some(Kind::Missing));
         self.noted.forget(at);
         Ok(())

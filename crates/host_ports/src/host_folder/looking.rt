@@ -8,7 +8,7 @@ ghost use Rattle.folder_spec.specs.Listing.{Item};
 ghost use Rattle.folder_spec.specs.Path.{parent};
 ghost use Rattle.folder_spec.specs.declared.Kind.TheVariants.{Missing};
 ghost use Rattle.host_ports.specs.Causes.{IsFailure};
-ghost use Rattle.host_ports.specs.Calls.{LooksAt};
+ghost use Rattle.host_ports.specs.Calls.{HeedsBlind, LooksAt};
 ghost use Rattle.host_ports.specs.Noted.{has};
 
 use crate::causes::Cause;
@@ -17,11 +17,39 @@ use crate::host_folder::HostFolder;
 use crate::listing::entries_of;
 use crate::pieces::fill_from;
 use crate::places::{Place, look, reach, test_names};
+use crate::watched::stamp_at;
 use folder_model::{Entry, FPath, Kind};
 
 #[tactic(auto, using(crate::proofs::Dirs::sees_same, crate::proofs::Dirs::sees_after))]
 impl HostFolder {
+    // Looks at a path. What has come to stand at a claimed path at or above it is claimed before it is looked at.
     pub(super) fn look(&mut self, at: &FPath) -> Result<Place, Cause>
+        ensures looks { LooksAt at.now self.old.dirs self.new.dirs result }
+        ensures known { IfOk result (λ place. IsSome place.kind → IsTrue (has self.new.dirs.known (parent at.now))) }
+        ensures bar { self.new.barred ≡ self.old.barred }
+        ensures faults { self.new.faults ≡ self.old.faults }
+    {
+        let lacked = self.claims.lack(at);
+        if lacked {
+            self.take_on(at)?;
+        }
+        let place = self.look_at(at)?;
+        if lacked && self.claims.lack(at) && stands(place.kind) {
+            self.take_on(at)?;
+            self.look_at(at)
+        } else {
+            Ok(place)
+        }
+    }
+
+    fn take_on(&mut self, at: &FPath) -> Result<(), Cause>
+        ensures { self.new ≡ self.old }
+    {
+        self.claims
+            .take_on(&self.rt, self.alloc, self.base.as_str(), at)
+    }
+
+    fn look_at(&mut self, at: &FPath) -> Result<Place, Cause>
         ensures looks { LooksAt at.now self.old.dirs self.new.dirs result }
         ensures known { IfOk result (λ place. IsSome place.kind → IsTrue (has self.new.dirs.known (parent at.now))) }
         ensures bar { self.new.barred ≡ self.old.barred }
@@ -73,9 +101,10 @@ impl HostFolder {
     pub(super) fn kind_of(&mut self, at: &FPath) -> Result<Kind, Cause>
         ensures looks { LooksAt at.now self.old.dirs self.new.dirs result }
         ensures known { IfOk result (λ kind. kind ≢ Missing → IsTrue (has self.new.dirs.known (parent at.now))) }
-        ensures bar { self.new.barred ≡ self.old.barred }
+        ensures bar { HeedsBlind Cause.Held self.old self.new result }
         ensures faults { self.new.faults ≡ self.old.faults }
     {
+        self.test_blind()?;
         if self.noted.knows_above(at)? {
             if let Some(kind) = self.kinds.kind_at(at) {
                 return Ok(kind);
@@ -117,23 +146,38 @@ impl HostFolder {
         ensures looks { LooksAt at.now self.old.dirs self.new.dirs result }
         ensures sorted { IfOk result (λ entries. IsSortedByKey (λ (entry : Item). entry.name) (slice_cmp nat_cmp) entries.items) }
         ensures known { OnOk result (IsTrue (has self.new.dirs.known at.now)) }
-        ensures bar { self.new.barred ≡ self.old.barred }
+        ensures bar { HeedsBlind Cause.Held self.old self.new result }
         ensures faults { self.new.faults ≡ self.old.faults }
     {
+        self.test_blind()?;
         let text = self.place_of(at, Kind::Dir)?;
         self.noted.see(at)?;
+        self.watch(at, text.as_str())?;
         let entries = entries_of(&self.rt, self.alloc, text.as_str())?;
         self.keep_entries(at, entries.as_slice());
         Ok(entries)
+    }
+
+    // Keeps when a directory at or below a claimed path changed last, before it is listed.
+    fn watch(&mut self, at: &FPath, text: &str) -> Result<(), Cause>
+        ensures { self.new ≡ self.old }
+    {
+        if self.claims.cover(at) {
+            if let Some(stamp) = stamp_at(&self.rt, text)? {
+                self.watched.keep(at, stamp)?;
+            }
+        }
+        Ok(())
     }
 
     pub(super) fn bytes(&mut self, at: &FPath, start: u64, out: &mut [u8]) -> Result<usize, Cause>
         ensures looks { LooksAt at.now self.old.dirs self.new.dirs result }
         ensures within { IfOk result (λ n. n ≤ length out.old) }
         ensures unread { IfErr result (λ cause. IsFailure cause ⊎ (out.new ≡ out.old)) }
-        ensures bar { self.new.barred ≡ self.old.barred }
+        ensures bar { HeedsBlind Cause.Held self.old self.new result }
         ensures faults { self.new.faults ≡ self.old.faults }
     {
+        self.test_blind()?;
         test_names(at)?;
         match self.open_bytes(at, start, out) {
             Some(answer) => answer,
@@ -187,5 +231,13 @@ impl HostFolder {
         } else {
             self.place_of(at, Kind::File)
         }
+    }
+}
+
+// Whether something was found.
+fn stands(kind: Option<Kind>) -> bool {
+    match kind {
+        None | Some(Kind::Missing) => false,
+        Some(_) => true,
     }
 }

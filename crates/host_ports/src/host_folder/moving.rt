@@ -7,9 +7,10 @@ ghost use Rattle.host_ports.specs.Calls.{HeedsBar};
 ghost use Rattle.host_ports.specs.Noted.{IsJust, IsSettled, Sees, has};
 ghost use Rattle.host_ports.specs.Places.{names_entries};
 
-use crate::causes::Cause;
+use crate::causes::{Cause, Trouble};
 use crate::handles::Made;
 use crate::host_folder::HostFolder;
+use crate::host_folder::syncing::sync_open;
 use crate::places::{Node, Place};
 use folder_model::{FPath, Kind};
 use std::alloc::AllocError;
@@ -88,7 +89,19 @@ impl HostFolder {
     {
         self.note_above(old)?;
         self.note_above(new)?;
-        Ok(())
+        self.note_loss(old, new)
+    }
+
+    // Notes that the directory above one path loses an entry to that above another, if that is another one.
+    fn note_loss(&mut self, old: &FPath, new: &FPath) -> Result<(), AllocError>
+        ensures { self.new ≡ self.old }
+    {
+        let (from, to) = (old.parent()?, new.parent()?);
+        if from.is(&to) {
+            Ok(())
+        } else {
+            self.noted.lose(from)
+        }
     }
 
     // What may be moved from one path to another: no claim of either is missing.
@@ -107,6 +120,7 @@ impl HostFolder {
     {
         self.test_made(old, from, to)?;
         self.may_change(new)?;
+        self.sync_due()?;
         self.note_both(old, new)?;
         self.rename_there(old, new, from, to)?;
         self.life.count_placed();
@@ -131,9 +145,34 @@ impl HostFolder {
     {
         self.sync_noted()?;
         self.may_move_there(old, new)?;
+        self.test_watched(old)?;
         let below = self.noted.known_below(old)?;
+        self.handles.close_below(old);
         self.move_held(old, new, from, to)?;
         self.noted.unknow(below.as_slice());
+        Ok(())
+    }
+
+    // Before what stands at a claimed path is moved away, tests that no directory of which entries were listed has changed since.
+    fn test_watched(&mut self, old: &FPath) -> Result<(), Cause>
+        ensures { self.new ≡ self.old }
+    {
+        if !self.claims.are_at(old) {
+            return self.let_go_of_watched(old);
+        }
+        match self.watched.changed(&self.rt, self.base.as_str())? {
+            Some(at) => {
+                self.keep_trouble(Trouble::new(&at, Cause::Changed));
+                Err(Cause::Changed)
+            }
+            None => self.let_go_of_watched(old),
+        }
+    }
+
+    fn let_go_of_watched(&mut self, old: &FPath) -> Result<(), Cause>
+        ensures { self.new ≡ self.old }
+    {
+        self.watched.forget_below(old)?;
         Ok(())
     }
 
@@ -161,6 +200,7 @@ impl HostFolder {
         ensures { self.new ≡ self.old }
     {
         fs::rename(&self.rt, from.text.as_str(), to.text.as_str())?;
+        self.claims.end_below(old);
         self.forget_below(old, None);
         self.keep_kind(old, Kind::Missing);
         self.forget_below(new, from.kind);
@@ -175,8 +215,8 @@ fn fit(made: &Made, from: &Place, to: &Place) -> Result<(), Cause> {
     }
     if let Some(replaced) = &to.metadata {
         let permissions = replaced.permissions();
-        if permissions.mode() != made.mode {
-            let _ = made.file.set_permissions(permissions);
+        if permissions.mode() != made.mode && made.file.set_permissions(permissions).is_ok() {
+            sync_open(&made.file)?;
         }
     }
     Ok(())

@@ -2,12 +2,16 @@
 #![tactic(auto)]
 
 mod claiming;
+mod open_to_others;
 mod streams;
 mod synopsis;
+mod terminal;
 
 use crate::claiming::claim;
+use crate::open_to_others::tell_open;
 use crate::streams::{WipedSink, tell};
 use crate::synopsis::tell_commands;
+use crate::terminal::ShownSink;
 use command_answers::{Answer, report};
 use command_words::Request;
 use host_ports::{HostFolder, HostRandoms};
@@ -44,7 +48,7 @@ fn status(rt: &HostRuntime) -> Result<u8, Answer> {
     Ok(status)
 }
 
-// Claims what the command of these words may change, and tells whether it prints before all is done.
+// Claims what the command of these words may change, and tells whether it prints before all is done: then what it prints are contents.
 fn claim_words(
     rt: &HostRuntime,
     words: &[String],
@@ -54,6 +58,9 @@ fn claim_words(
         return Ok(false);
     };
     claim(rt.alloc(), &request, folder)?;
+    if rt.stderr().is_terminal() {
+        tell_open(rt, &request, folder);
+    }
     Ok(request.row().streams)
 }
 
@@ -69,7 +76,7 @@ fn status_of(
     if shows {
         folder.show_life();
     }
-    let status = run_in(rt, words, folder, shows, shared)?;
+    let status = run_in(rt, words, streams, folder, shows)?;
     folder.wipe();
     if status == FOLDER_FAULT && (terminal || wants_cause(rt)) {
         tell(rt, folder);
@@ -101,18 +108,21 @@ fn clears_lines(rt: &HostRuntime) -> bool {
 }
 
 // Runs the command over the folder. Where the folder shows on the terminal how far it has come, its line is wiped before anything else
-// is printed there.
+// is printed there. A terminal gets no control character of a name; contents that it is given stand as they are.
 fn run_in(
     rt: &HostRuntime,
     words: &[String],
+    streams: bool,
     folder: &mut HostFolder,
     shows: bool,
-    shared: bool,
 ) -> Result<u8, Answer> {
+    let (out_terminal, err_terminal) = (rt.stdout().is_terminal(), rt.stderr().is_terminal());
     let mut random = HostRandoms::new(rt.clone()?);
     let mut input = StdSource::new(rt.stdin());
-    let mut out = WipedSink::new(StdSink::new(rt.stdout()), rt, shows && shared);
-    let mut err = WipedSink::new(StdSink::new(rt.stderr()), rt, shows);
+    let out = ShownSink::new(StdSink::new(rt.stdout()), out_terminal && !streams);
+    let mut out = WipedSink::new(out, rt, shows && out_terminal);
+    let err = ShownSink::new(StdSink::new(rt.stderr()), err_terminal);
+    let mut err = WipedSink::new(err, rt, shows);
     Ok(run(
         rt.alloc(),
         words,

@@ -1,11 +1,12 @@
 //! The standard streams beside a line that a folder shows on the terminal.
 
+use crate::terminal::ShownSink;
 use command_answers::shown_folder;
 use folder_model::FPath;
 use host_ports::{HostFolder, Trouble, clear_line, is_late};
-use port_model::{Sink, SinkFault};
+use port_model::{Sink, SinkFault, StdSink};
 use std::alloc::{AllocError, Global};
-use std::io::Write;
+use std::io::IsTerminal;
 use std::time::Instant;
 
 /// A sink before whose pieces the line is taken off the terminal, where it may stand there.
@@ -49,9 +50,15 @@ fn wipe_late(rt: &HostRuntime, start: Instant) {
 pub fn tell(rt: &HostRuntime, folder: &HostFolder) {
     if let Some(trouble) = folder.trouble() {
         if let Ok(line) = line_of(rt.alloc(), trouble) {
-            let _ = rt.stderr().write_all(line.as_bytes());
+            tell_line(rt, line.as_str());
         }
     }
+}
+
+/// Writes a line to standard error, whatever becomes of it.
+pub fn tell_line(rt: &HostRuntime, line: &str) {
+    let shows = rt.stderr().is_terminal();
+    let _ = ShownSink::new(StdSink::new(rt.stderr()), shows).put(line.as_bytes());
 }
 
 fn line_of(alloc: Global, trouble: &Trouble) -> Result<String, AllocError> {
@@ -65,8 +72,8 @@ fn line_of(alloc: Global, trouble: &Trouble) -> Result<String, AllocError> {
     }
 }
 
-// The path as messages show it, and the base as a dot.
-fn place_of(alloc: Global, at: &FPath) -> Result<String, AllocError> {
+/// The path as messages show it, and the base as a dot.
+pub fn place_of(alloc: Global, at: &FPath) -> Result<String, AllocError> {
     if at.depth() == 0 {
         String::from_str(alloc, ".")
     } else {

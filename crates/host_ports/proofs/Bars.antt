@@ -1,6 +1,6 @@
 -- What is barred, step by step.
 use Rattle.std.proofs.Common.{IsTrue}
-use Rattle.host_ports.specs.Noted.{Bars, KeepsBars}
+use Rattle.host_ports.specs.Ground.{Bars, KeepsBars}
 
 pub keeps_same : (a : Bars) → KeepsBars a a
 keeps_same a = record { changes = λ is. is; settles = λ is. is; reads = λ is. is }

@@ -1,8 +1,9 @@
 -- How the calls of a folder of the machine heed what is barred, and what they note.
 use Rattle.std.specs.Prelude.{◌≡◌, Bool, Result, Err, OnOk, IsTrue}
 use Rattle.folder_spec.specs.Path.{Path, parent}
-use Rattle.host_ports.specs.Noted.{Dirs, Ground, IsStopped, KeepsBars, Sees, has}
-use Rattle.host_ports.specs.Places.{names_entries}
+use Rattle.host_places.specs.Noted.{Dirs, Sees, has}
+use Rattle.host_ports.specs.Ground.{Ground, IsStopped, KeepsBars}
+use Rattle.host_places.specs.Places.{names_entries}
 
 -- a call notes nothing where it is barred: it answers that another run holds what it would change
 abbrev pub IsHeld : {T E : Type 0} → E → Ground → Ground → Result T E → Type 0

@@ -1,4 +1,2 @@
 pub mod Calls
-pub mod Causes
-pub mod Noted
-pub mod Places
+pub mod Ground

@@ -7,18 +7,14 @@ mod moving;
 mod syncing;
 
 ghost use Rattle.std.specs.Prelude.{◌≡◌, ◌++◌, [], IfOk, IsTrue, OnErr, OnOk};
-ghost use Rattle.host_ports.specs.Noted.{IsStopped, KeepsBars, no_bars};
+ghost use Rattle.host_ports.specs.Ground.{IsStopped, KeepsBars, no_bars};
 
-use crate::causes::{Cause, Trouble, fault_of};
-use crate::claims::{Claims, Wanted};
-use crate::handles::Handles;
-use crate::kinds::Kinds;
-use crate::mounts::mounted_of;
-use crate::noted::Noted;
-use crate::places::{metadata_at, text_of};
 use crate::sign_of_life::SignOfLife;
-use crate::watched::Watched;
 use folder_model::{FPath, FolderFault};
+use host_places::{
+    Cause, Claims, Handles, Kinds, Noted, Trouble, Wanted, Watched, fault_of, metadata_at,
+    mounted_of, text_of,
+};
 use std::alloc::{AllocError, Global};
 use std::marker::Model;
 use std::os::unix::fs::PermissionsExt;
@@ -47,7 +43,7 @@ pub struct HostFolder {
 }
 
 impl Model for HostFolder {
-    ghost use Rattle.host_ports.specs.Noted.{Ground};
+    ghost use Rattle.host_ports.specs.Ground.{Ground};
 
     ghost Value = { Ground };
 

@@ -2,7 +2,7 @@
 
 ghost use Rattle.std.specs.Prelude.{◌≡◌, None};
 
-use crate::pieces::fill;
+use host_places::fill;
 use port_model::{RandomFault, Randoms};
 use std::fs;
 use std::os::unix::fs::FileTypeExt;

@@ -3,24 +3,10 @@
 //! nothing of contents.
 #![tactic(auto)]
 
-mod causes;
-mod claims;
-mod handles;
 mod host_folder;
 mod host_randoms;
-mod kinds;
-mod listed;
-mod listing;
-mod mounts;
-mod noted;
-mod pieces;
-mod places;
-mod plain;
 mod sign_of_life;
-mod watched;
 
-pub use causes::{Cause, Trouble};
-pub use claims::{Hold, Wanted};
 pub use host_folder::HostFolder;
 pub use host_randoms::HostRandoms;
 pub use sign_of_life::{clear_line, is_late};

@@ -9,10 +9,10 @@ use Rattle.command_words.specs.declared.rows.Claim.TheVariants.{Shared, Alone}
 use Rattle.command_words.specs.declared.rows.Place.{Place}
 use Rattle.command_words.specs.declared.rows.Place.TheVariants.{Value, JournalSource, JournalTarget}
 use Rattle.folder_spec.specs.Path.{Path}
-use Rattle.host_ports.specs.Noted.{Ground}
-use Rattle.host_ports.specs.declared.claims.Hold.{Hold}
-use Rattle.host_ports.specs.declared.claims.Hold.TheVariants as held
-use Rattle.host_ports.specs.declared.claims.Wanted.{Wanted}
+use Rattle.host_ports.specs.Ground.{Ground}
+use Rattle.host_places.specs.declared.claims.Hold.{Hold}
+use Rattle.host_places.specs.declared.claims.Hold.TheVariants as held
+use Rattle.host_places.specs.declared.claims.Wanted.{Wanted}
 use Rattle.move_journal.specs.declared.journal.Journal.{Journal}
 
 -- beside other runs that read the same

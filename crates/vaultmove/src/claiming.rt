@@ -7,7 +7,8 @@ use command_answers::Answer;
 use command_words::Request;
 use command_words::rows::{Claim, Place};
 use folder_model::{FPath, FolderFault};
-use host_ports::{Hold, HostFolder, Wanted};
+use host_places::{Hold, Wanted};
+use host_ports::HostFolder;
 use move_journal::{Journal, JournalFault, read};
 use std::alloc::{AllocError, Global};
 

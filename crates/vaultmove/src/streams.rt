@@ -3,7 +3,8 @@
 use crate::terminal::ShownSink;
 use command_answers::shown_folder;
 use folder_model::FPath;
-use host_ports::{HostFolder, Trouble, clear_line, is_late};
+use host_places::Trouble;
+use host_ports::{HostFolder, clear_line, is_late};
 use port_model::{Sink, SinkFault, StdSink};
 use std::alloc::{AllocError, Global};
 use std::io::IsTerminal;

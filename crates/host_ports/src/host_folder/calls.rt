@@ -9,17 +9,15 @@ ghost use Rattle.folder_spec.specs.Path.{parent};
 ghost use Rattle.folder_spec.specs.declared.FolderFault.TheVariants.{Failed};
 ghost use Rattle.folder_spec.specs.declared.Kind.TheVariants.{Missing};
 ghost use Rattle.folder_model.specs.Answers.{Counts, KeepsUnlessRun};
-ghost use Rattle.host_ports.specs.Causes.{fault_by};
+ghost use Rattle.host_places.specs.Causes.{fault_by};
 ghost use Rattle.host_ports.specs.Calls.{ChangesAt, HeedsBars, HeedsReads, LooksAt, StopsBars};
-ghost use Rattle.host_ports.specs.Noted.{IsJust, IsSettled, IsStopped, KeepsBars, Sees, SeesBut, has};
-ghost use Rattle.host_ports.specs.Places.{names_entries};
+ghost use Rattle.host_places.specs.Noted.{IsJust, IsSettled, Sees, SeesBut, has};
+ghost use Rattle.host_ports.specs.Ground.{IsStopped, KeepsBars};
+ghost use Rattle.host_places.specs.Places.{names_entries};
 
-use crate::causes::{Cause, Trouble, fault_of};
-use crate::claims::Claims;
-use crate::handles::Handles;
 use crate::host_folder::HostFolder;
-use crate::kinds::Kinds;
 use folder_model::{Entry, FPath, Folder, FolderFault, Kind};
+use host_places::{Cause, Claims, Handles, Kinds, Trouble, fault_of};
 
 impl HostFolder {
     // The answer to a call: it is counted where it failed or was refused, and the cause is kept, with the path that the call had. Some causes

@@ -3,15 +3,12 @@
 ghost use Rattle.std.specs.Prelude.{◌≡◌, ◌⊎◌, true, OnOk, IsTrue};
 ghost use Rattle.folder_spec.specs.Path.{Path, parent};
 ghost use Rattle.host_ports.specs.Calls.{ChangesAt, HeedsBar, LooksAt};
-ghost use Rattle.host_ports.specs.Noted.{Sees, SeesBut, has, same};
-ghost use Rattle.host_ports.specs.Places.{names_entries};
+ghost use Rattle.host_places.specs.Noted.{Sees, SeesBut, has, same};
+ghost use Rattle.host_places.specs.Places.{names_entries};
 
-use crate::causes::Cause;
-use crate::handles::Made;
 use crate::host_folder::HostFolder;
-use crate::pieces::put;
-use crate::places::{Node, test_names};
 use folder_model::{FPath, Kind};
+use host_places::{Cause, Made, Node, put, test_names};
 use std::alloc::AllocError;
 use std::fs::{DirBuilder, OpenOptions};
 use std::os::unix::fs::{DirBuilderExt, OpenOptionsExt, PermissionsExt};
@@ -43,7 +40,7 @@ fn open_to_append(rt: &HostRuntime, text: &str) -> Result<fs::File, Cause> {
     Ok(options.open(rt, text)?)
 }
 
-#[tactic(auto, using(crate::proofs::Dirs::sees_same, crate::proofs::Dirs::sees_after))]
+#[tactic(auto, using(host_places::proofs::Dirs::sees_same, host_places::proofs::Dirs::sees_after))]
 impl HostFolder {
     // Notes that the directory above a path changes.
     pub(super) fn note_above(&mut self, at: &FPath) -> Result<(), AllocError>
@@ -197,7 +194,7 @@ impl HostFolder {
         Ok(())
     }
 
-    #[tactic(auto, using(crate::proofs::Dirs::sees_but, crate::proofs::Dirs::sees_but_after, crate::proofs::Dirs::below_apart))]
+    #[tactic(auto, using(host_places::proofs::Dirs::sees_but, host_places::proofs::Dirs::sees_but_after, host_places::proofs::Dirs::below_apart))]
     pub(super) fn remove_dir_now(&mut self, at: &FPath) -> Result<(), Cause>
         ensures names { OnOk result (IsTrue (names_entries at.now)) }
         ensures changed { OnOk result (IsTrue (has self.new.dirs.changed (parent at.now))) }

@@ -7,20 +7,15 @@ ghost use Rattle.std.specs.Ordering.{nat_cmp};
 ghost use Rattle.folder_spec.specs.Listing.{Item};
 ghost use Rattle.folder_spec.specs.Path.{parent};
 ghost use Rattle.folder_spec.specs.declared.Kind.TheVariants.{Missing};
-ghost use Rattle.host_ports.specs.Causes.{IsFailure};
+ghost use Rattle.host_places.specs.Causes.{IsFailure};
 ghost use Rattle.host_ports.specs.Calls.{HeedsBlind, LooksAt};
-ghost use Rattle.host_ports.specs.Noted.{has};
+ghost use Rattle.host_places.specs.Noted.{has};
 
-use crate::causes::Cause;
-use crate::handles::Opened;
 use crate::host_folder::HostFolder;
-use crate::listing::entries_of;
-use crate::pieces::fill_from;
-use crate::places::{Place, look, reach, test_names};
-use crate::watched::stamp_at;
 use folder_model::{Entry, FPath, Kind};
+use host_places::{Cause, Opened, Place, entries_of, fill_from, look, reach, stamp_at, test_names};
 
-#[tactic(auto, using(crate::proofs::Dirs::sees_same, crate::proofs::Dirs::sees_after))]
+#[tactic(auto, using(host_places::proofs::Dirs::sees_same, host_places::proofs::Dirs::sees_after))]
 impl HostFolder {
     // Looks at a path. What has come to stand at a claimed path at or above it is claimed before it is looked at.
     pub(super) fn look(&mut self, at: &FPath) -> Result<Place, Cause>

@@ -4,20 +4,18 @@ ghost use Rattle.std.specs.Prelude.{◌≡◌, ◌↔◌, ◌≢◌, ◌⊎◌, 
 ghost use Rattle.folder_spec.specs.Path.{parent};
 ghost use Rattle.folder_spec.specs.declared.Kind.TheVariants.{File, Missing};
 ghost use Rattle.host_ports.specs.Calls.{HeedsBar};
-ghost use Rattle.host_ports.specs.Noted.{IsJust, IsSettled, Sees, has};
-ghost use Rattle.host_ports.specs.Places.{names_entries};
+ghost use Rattle.host_places.specs.Noted.{IsJust, IsSettled, Sees, has};
+ghost use Rattle.host_places.specs.Places.{names_entries};
 
-use crate::causes::{Cause, Trouble};
-use crate::handles::Made;
 use crate::host_folder::HostFolder;
 use crate::host_folder::syncing::sync_open;
-use crate::places::{Node, Place};
 use folder_model::{FPath, Kind};
+use host_places::{Cause, Made, Node, Place, Trouble};
 use std::alloc::AllocError;
 use std::fs;
 use std::os::unix::fs::PermissionsExt;
 
-#[tactic(auto, using(crate::proofs::Dirs::sees_same, crate::proofs::Dirs::sees_after))]
+#[tactic(auto, using(host_places::proofs::Dirs::sees_same, host_places::proofs::Dirs::sees_after))]
 impl HostFolder {
     // Moves what may move, unless another program has put something into the place meanwhile. Before a directory moves, all that is noted
     // is synced.

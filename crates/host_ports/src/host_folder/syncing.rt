@@ -2,20 +2,16 @@
 
 ghost use Rattle.std.specs.Prelude.{◌≡◌, OnErr, OnOk};
 ghost use Rattle.host_ports.specs.Calls.{HeedsBar, HeedsStop, LooksAt};
-ghost use Rattle.host_ports.specs.Noted.{IsSettled};
+ghost use Rattle.host_places.specs.Noted.{IsSettled};
 
-use crate::causes::{Cause, Trouble, unsynced};
-use crate::handles::{Opened, Pair};
 use crate::host_folder::HostFolder;
-use crate::noted::Noted;
-use crate::pieces::sync_again;
-use crate::places::{test_names, text_of};
 use folder_model::{FPath, Kind};
+use host_places::{Cause, Noted, Opened, Pair, Trouble, sync_again, test_names, text_of, unsynced};
 use std::alloc::Global;
 use std::fs;
 use std::io::ErrorKind;
 
-#[tactic(auto, using(crate::proofs::Dirs::sees_same, crate::proofs::Dirs::sees_after))]
+#[tactic(auto, using(host_places::proofs::Dirs::sees_same, host_places::proofs::Dirs::sees_after))]
 impl HostFolder {
     pub(super) fn sync_file(&mut self, at: &FPath) -> Result<(), Cause>
         ensures looks { LooksAt at.now self.old.dirs self.new.dirs result }

@@ -1,5 +1,5 @@
 use Rattle.std.proofs.Common.{◌≡◌}
-use Rattle.host_ports.specs.Noted.{KeepsBars}
+use Rattle.host_ports.specs.Ground.{KeepsBars}
 use Rattle.host_ports.proofs.host_folder.HostFolder.claim_each.Given as goal
 
 abbrev pub invariant-loop-one : goal.invariant-loop-one

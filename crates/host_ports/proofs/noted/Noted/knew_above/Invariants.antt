@@ -1,4 +1,0 @@
-use Rattle.host_ports.proofs.noted.Noted.knew_above.Given as goal
-
-abbrev pub invariant-loop-dir : goal.invariant-loop-dir
-invariant-loop-dir l = Unit {0}

@@ -1,0 +1,4 @@
+mod Vaults
+mod Drawn
+pub mod Rekeyed
+mod Changed

@@ -69,9 +69,9 @@ impl Kinds {
         self.listed.put(at, Some(kind));
     }
 
-    /// Whether nothing but files and directories stands in the directory above a path.
-    pub fn are_plain_above(&mut self, at: &FPath) -> bool {
-        self.plain.has_above(at)
+    /// Whether what stands at a path, if something does, is a file.
+    pub fn can_be_read(&mut self, at: &FPath) -> bool {
+        self.plain.has_above(at) || self.kind_at(at) == Some(Kind::File)
     }
 
     /// Keeps what stands in a directory.

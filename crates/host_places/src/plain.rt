@@ -1,4 +1,4 @@
-//! Directories of claimed folders in which nothing but files and directories stood when they were listed.
+//! Directories of claimed folders in which nothing but files stood when they were listed.
 
 use folder_model::{Entry, FPath, Kind};
 use std::alloc::{AllocError, Global};
@@ -32,7 +32,7 @@ impl Plain {
 
     // Keeps a directory that was listed, if it is one and there is memory for it, and else lets go of it.
     pub fn keep(&mut self, dir: &FPath, entries: &[Entry]) {
-        if entries.iter().all(|entry| entry.kind != Kind::Other) {
+        if entries.iter().all(|entry| entry.kind == Kind::File) {
             let _ = self.add(dir);
         } else {
             self.last = None;

@@ -194,12 +194,12 @@ fn entries_told(alloc: Global, entries: &[Entry]) -> Result<String, AllocError> 
     Ok(text)
 }
 
-// How many bytes a file has. What is no file may be refused, or fail only once it is open.
+// How many bytes a file has.
 fn read_told<F: Folder>(alloc: Global, folder: &mut F, at: &FPath) -> Result<String, AllocError> {
     let mut out = [0; MOST];
     match folder.read(at, 0, &mut out) {
         Ok(count) => format!(in alloc; "{count} bytes"),
-        Err(_) => String::from_str(alloc, "no file"),
+        Err(fault) => fault_told(alloc, fault),
     }
 }
 

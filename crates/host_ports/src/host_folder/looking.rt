@@ -215,13 +215,13 @@ impl HostFolder {
         Opened::open(&self.rt, at, text.as_str())
     }
 
-    // The text of a file to be read. It isn't looked at where nothing stands beside it that could be a link or could hold up who opens it.
+    // The text of a file to be read. It isn't looked at where no directory, no link and nothing that could hold up who opens it can stand there.
     fn place_to_read(&mut self, at: &FPath) -> Result<String, Cause>
         ensures looks { LooksAt at.now self.old.dirs self.new.dirs result }
         ensures bar { self.new.barred ≡ self.old.barred }
         ensures faults { self.new.faults ≡ self.old.faults }
     {
-        if self.kinds.are_plain_above(at) {
+        if self.kinds.can_be_read(at) {
             self.room_at(at)
         } else {
             self.place_of(at, Kind::File)

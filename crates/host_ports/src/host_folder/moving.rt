@@ -8,11 +8,12 @@ ghost use Rattle.host_places.specs.Noted.{IsJust, IsSettled, Sees, has};
 ghost use Rattle.host_places.specs.Places.{names_entries};
 
 use crate::host_folder::HostFolder;
-use crate::host_folder::syncing::sync_open;
+use crate::host_folder::syncing::{is_passed_over, sync_open};
 use folder_model::{FPath, Kind};
 use host_places::{Cause, Made, Node, Place, Trouble};
 use std::alloc::AllocError;
 use std::fs;
+use std::fs::Permissions;
 use std::os::unix::fs::PermissionsExt;
 
 #[tactic(auto, using(host_places::proofs::Dirs::sees_same, host_places::proofs::Dirs::sees_after))]
@@ -213,11 +214,26 @@ fn fit(made: &Made, from: &Place, to: &Place) -> Result<(), Cause> {
     }
     if let Some(replaced) = &to.metadata {
         let permissions = replaced.permissions();
-        if permissions.mode() != made.mode && made.file.set_permissions(permissions).is_ok() {
-            sync_open(&made.file)?;
+        if permissions.mode() != made.mode {
+            return take_mode(&made.file, permissions);
         }
     }
     Ok(())
+}
+
+// Gives a file this mode and syncs it again. It keeps the one that it was made with where the file system takes no other.
+fn take_mode(file: &fs::File, permissions: Permissions) -> Result<(), Cause> {
+    match file.set_permissions(permissions) {
+        Ok(()) => sync_open(file),
+        Err(error) => {
+            let cause = Cause::from(error);
+            if is_passed_over(cause) {
+                Ok(())
+            } else {
+                Err(cause)
+            }
+        }
+    }
 }
 
 // Whether something stands at a place of which it was kept that nothing does.

@@ -237,9 +237,9 @@ fn open_dir(rt: &HostRuntime, alloc: Global, base: &str, dir: &FPath) -> Result<
     Opened::open(rt, dir, text.as_str())
 }
 
-// Whether a directory that this process hasn't changed is passed over where a sync of it fails for this cause: it may not be opened, or
-// its file system has no sync of directories.
-fn is_passed_over(cause: Cause) -> bool {
+// Whether it is passed over that a directory which this process hasn't changed can't be synced for this cause, or that a file can't be given
+// a mode: there is no right to it, or the file system has no such call.
+pub fn is_passed_over(cause: Cause) -> bool {
     matches!(
         cause,
         Cause::Machine(

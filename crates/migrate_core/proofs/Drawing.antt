@@ -1,5 +1,5 @@
 -- What a migration draws until it ends, and that zeros were drawn last where they are why.
-use Rattle.std.proofs.Common.{◌≡◌, ◌≢◌, ◌∙◌, ℕ, zero, suc, ◌*◌, List, [], ◌++◌, length, take, drop, replicate, Option, Result, Ok, Err, IfErr, IsErrAnd, inl, inr, refl, sym, ap, subst, arith, append_assoc}
+use Rattle.std.proofs.Common.{◌≡◌, ◌≢◌, ◌⊎◌, ◌∙◌, ℕ, zero, suc, ◌*◌, List, [], ◌++◌, length, take, drop, replicate, Option, Result, Ok, Err, IfErr, IsErrAnd, inl, inr, refl, sym, ap, subst, arith, append_assoc}
 use Rattle.std.proofs.lemmas.List.{length-drop, take-append-drop, take_all}
 use Rattle.item_making.specs.Ending.{Ending}
 use Rattle.content_writing.specs.Writing.{sixteen}
@@ -8,6 +8,8 @@ use Rattle.item_making.specs.declared.fault.PutFault.TheVariants as put
 use Rattle.folder_spec.proofs.Paths.{base_or_child}
 use Rattle.folder_spec.specs.Event.{Told}
 use Rattle.folder_spec.specs.Path.{Path}
+use Rattle.folder_spec.specs.Seen.{IfSeen, IsSeen}
+use Rattle.folder_spec.specs.View.{View}
 use Rattle.plain_tree.specs.Names as plain
 use Rattle.port_model.specs.Draws.{ByteStream, Draws}
 use Rattle.vault_spec.specs.Making.{NewItem}
@@ -53,6 +55,11 @@ of_zeros put.ZeroRandom same = refl
 of_zeros put.Failed same = cc same
 of_zeros put.NoMemory same = cc same
 of_zeros why same = cc same
+
+-- nothing is drawn, or what is so of all that was seen then is so of all that is seen at first
+pub undrawn_on : {A : Type 0} (P Q : View → Type 0) (t u : Option Told) → IfSeen t (λ v. IsSeen u v) → ((v : View) → IsSeen t v → P v → Q v) → A ⊎ IfSeen u P → A ⊎ IfSeen t Q
+undrawn_on P Q t u known more (inl none) = inl none
+undrawn_on P Q t u known more (inr passed) = inr (λ v is. more v is (passed v (known v is)))
 
 -- ---- a call that ends so
 

@@ -45,6 +45,7 @@ use Rattle.vault_walk.specs.Surveyed.{IsPlanOf}
 use Rattle.migrate_core.specs.Limits.{EndsBy}
 use Rattle.migrate_core.specs.declared.fault.MoveFault.{MoveFault}
 use Rattle.migrate_core.specs.declared.placing.Done.{Done}
+use Rattle.migrate_core.specs.Lasting.{HaveToldTrees, StaysBeside}
 use Rattle.migrate_core.specs.Moved.{HasMoved, HasPlaced, HaveMappedTree, Moved, MovesTold, MovesTree, Placed, done_of, lacking}
 use Rattle.migrate_core.specs.Moving.{MovesOnly}
 use Rattle.migrate_core.specs.Sides.{AreItemsToMove, AreSides, AreTold, IsMappedWalk}
@@ -202,6 +203,28 @@ one_tree : HoldsHeld → SameIsPart → BothAreMapped → (rule : NameMap) (from
 one_tree held_in same_part mapped rule from to items others t walked walked_target same v is own own_target =
     same_mapped held_in same_part mapped rule from to items others v (record { own = walked.own; walk = walked.walked.plan v is own; mapped = walked.mapped }) (walked_target.plan v is own_target) (same v is)
 
+-- nor does it part while both stay as they were
+pub trees_beside : HoldsHeld → SameIsPart → BothAreMapped → (rule : NameMap) (from to : OpenedVault) (work : Path) (own items others : List Planned) (t : Option Told) → AreSeparate from.root to.root work
+    → AreItemsToMove rule t from own items → IsWalked t to others → IfSeen t (λ v. match_of v (side_of from items) (side_of to others) ≡ Is Same)
+    → (a : Told) → t ≡ Some a → (w : View) → StaysBeside work t w → HaveMappedTree rule from to w
+trees_beside held_in same_part mapped rule from to work own items others t separate moving walked_target same a here w stays alone alone_target =
+    subst (λ x. IsMapped rule (tree (format_of from.vault) (under from.root w)) (tree (format_of to.vault) x)) (sym to_same)
+    (subst (λ x. IsMapped rule (tree (format_of from.vault) x) (tree_at to v)) (sym from_same)
+    (one_tree held_in same_part mapped rule from to items others t (mapped_walk rule t from own items moving) walked_target same v is
+    (subst (HasOwnFolders from.vault) from_same alone) (subst (HasOwnFolders to.vault) to_same alone_target)))
+  where
+    v : View
+    v = seen a.state
+
+    is : IsSeen t v
+    is = subst (λ o. IsSeen o v) (sym here) refl
+
+    from_same : under from.root w ≡ under from.root v
+    from_same = stays v from.root is separate.source
+
+    to_same : under to.root w ≡ under to.root v
+    to_same = stays v to.root is separate.target
+
 -- what is seen of two vaults that are left alone
 pub has_moved : HoldsHeld → SameIsPart → BothAreMapped → (from to : OpenedVault) (work : Path) (own items others : List Planned) (journal : Journal) (t u : Option Told) → AreSeparate from.root to.root work → AreSound t
     → IsJournal journal → journal.source ≡ from.root → journal.target ≡ to.root → AreTold journal own → AreItemsToMove journal.names t from own items → IsWalked t to others
@@ -272,6 +295,17 @@ opened_still work to pass vault (Some a) None sound went opens clean v is = absu
 
 opened_is : (x : OpenedVault) (root : Path) → x.root ≡ root → x ≡ opened_in root x.vault
 opened_is x root is = ap (λ r. opened_in r x.vault) is
+
+pub told_trees : (pass pass' : List ℕ) (v w : View) (journal : Journal) (rule : NameMap) (source target : OpenedVault) → rule ≡ journal.names → source.root ≡ journal.source → target.root ≡ journal.target
+    → IsVault (under journal.source v) pass source.vault → IsVault (under journal.target v) pass' target.vault → HaveMappedTree rule source target w → HaveToldTrees pass pass' v journal w
+told_trees pass pass' v w journal rule source target named source_at target_at opens opens_target trees = record {
+  source = source.vault;
+  target = target.vault;
+  opens_source = opens;
+  opens_target = opens_target;
+  trees = subst (λ x. HaveMappedTree journal.names x (opened_in journal.target target.vault) w) (opened_is source journal.source source_at)
+      (subst (λ y. HaveMappedTree journal.names source y w) (opened_is target journal.target target_at) (subst (λ n. HaveMappedTree n source target w) named trees));
+}
 
 pub tree_moved : (Q : Type 0) (names : NameMap) (from to work : Path) (from_pass to_pass : List ℕ) (source target : OpenedVault) (t u : Option Told) (result : Result Done MoveFault) → source.root ≡ from → target.root ≡ to → AreSound t → MovesOnly work to t u
     → IfSeen t (λ v. IsVault (under from v) from_pass source.vault) → IfSeen t (λ v. IsVault (under to v) to_pass target.vault)

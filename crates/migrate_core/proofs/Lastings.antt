@@ -12,7 +12,7 @@ use Rattle.folder_spec.specs.Moments.{Moments, Went}
 use Rattle.folder_spec.specs.Path.{Path}
 use Rattle.folder_spec.specs.Region.{IsAsBefore, SparesOld}
 use Rattle.folder_spec.specs.Replace.{IsNewFile}
-use Rattle.folder_spec.specs.Seen.{IfSeen, IsSeen, seen}
+use Rattle.folder_spec.specs.Seen.{IfSeen, IsSeen, seen, under}
 use Rattle.folder_spec.specs.State.{Node, State, Table, IsAmong, IsSound, IsTableOf, present}
 use Rattle.folder_spec.specs.View.{FileOf, View, found}
 use Rattle.migration_sides.proofs.Lasting.{settle_lasts}
@@ -33,8 +33,9 @@ use Rattle.work_folder.specs.Entries.{journal_path, new_journal_path}
 use Rattle.migrate_core.proofs.Leadings.{if_ok}
 use Rattle.migrate_core.proofs.Planned.{SeenAlone}
 use Rattle.migrate_core.proofs.Settled.{SettlesAlone, settled_at}
-use Rattle.migrate_core.proofs.WorkFolders.{ready_stays, written_beside}
-use Rattle.migrate_core.specs.Lasting.{Clears, ClearsReady, Finishes, FinishesSettled, KeepsJournal, KeepsText, KeepsTexts}
+use Rattle.migrate_core.proofs.Movings.{under_stays}
+use Rattle.migrate_core.proofs.WorkFolders.{elsewhere_at, ready_stays, writing_as, written_beside}
+use Rattle.migrate_core.specs.Lasting.{Clears, ClearsReady, Finishes, FinishesSettled, KeepsEachJournal, KeepsJournal, KeepsText, KeepsTexts, StaysBeside}
 use Rattle.migrate_core.specs.Leading.{FinishesFrom, Goes, IsSettled, Leads}
 use Rattle.migrate_core.specs.Moved.{done_of}
 use Rattle.migrate_core.specs.Moving.{MovesBeside}
@@ -55,7 +56,21 @@ leads_of g p q t u (Err fault) value is goes = absurd (cc is)
 
 -- ---- the journal
 
-module _ (work : Path) (journal : Journal) where
+-- more may be so then
+text_more : (P Q : View → Type 0) (work : Path) (journal : Journal) (s0 s : State) → (P (seen s) → Q (seen s)) → KeepsText P work journal s0 s → KeepsText Q work journal s0 s
+text_more P Q work journal s0 s more kept = record {
+  tables = λ t among. elim (kept.tables t among) [ inl same ↦ inl same | inr new ↦ inr (new.0, new.1, more new.2) ];
+  nodes = kept.nodes;
+  made = kept.made;
+}
+
+pub texts_more : (P Q : View → Type 0) (work : Path) (journal : Journal) (t u : Option Told) → ((a : Told) → t ≡ Some a → (w : View) → P w → Q w) → KeepsTexts P work journal t u → KeepsTexts Q work journal t u
+texts_more P Q work journal t u more =
+    from_to_more (λ a b. Went (KeepsText P work journal a.state) (λ s e. Unit {0}) a b) (λ a b. Went (KeepsText Q work journal a.state) (λ s e. Unit {0}) a b) t u
+    (λ a b is went. went_more (KeepsText P work journal a.state) (KeepsText Q work journal a.state) (λ s e. Unit {0}) (λ s e. Unit {0}) a b
+    (λ s kept. text_more P Q work journal a.state s (more a is (seen s)) kept) (λ s e h. tt) went)
+
+module _ (Is : View → Type 0) (work : Path) (journal : Journal) where
   abbrev Says : Type 0
   Says = journal.phase ≡ Building
 
@@ -66,78 +81,76 @@ module _ (work : Path) (journal : Journal) where
   at = journal_path work
 
   -- what stays in a region stays there
-  text_by_region : (region : Path → Bool) → IsTrue (region at) → (s0 s : State) → IsAsBefore region s0 s → KeepsText work journal s0 s
+  text_by_region : (region : Path → Bool) → IsTrue (region at) → (s0 s : State) → IsAsBefore region s0 s → KeepsText Is work journal s0 s
   text_by_region region inside s0 s stayed = record {
     tables = λ t among. let there : (u : Table) × IsTableOf s0 u × ((q : Path) → IsTrue (region q) → t q ≡ u q) = stayed.tables t among in inl (there.0, there.1, there.2 at inside);
     nodes = stayed.nodes;
     made = stayed.made;
   }
 
-  pub texts_by_region : (region : Path → Bool) (Q : Kind) (t u : Option Told) → IsTrue (region at) → Moments (IsAsBefore region) Q t u → KeepsTexts work journal t u
+  pub texts_by_region : (region : Path → Bool) (Q : Kind) (t u : Option Told) → IsTrue (region at) → Moments (IsAsBefore region) Q t u → KeepsTexts Is work journal t u
   texts_by_region region Q t u inside =
-      from_to_more (λ a b. Went (IsAsBefore region a.state) (Q a.state) a b) (λ a b. Went (KeepsText work journal a.state) (λ s e. Unit {0}) a b) t u
-      (λ a b is went. went_more (IsAsBefore region a.state) (KeepsText work journal a.state) (Q a.state) (λ s e. Unit {0}) a b (λ s stayed. text_by_region region inside a.state s stayed) (λ s e h. tt) went)
+      from_to_more (λ a b. Went (IsAsBefore region a.state) (Q a.state) a b) (λ a b. Went (KeepsText Is work journal a.state) (λ s e. Unit {0}) a b) t u
+      (λ a b is went. went_more (IsAsBefore region a.state) (KeepsText Is work journal a.state) (Q a.state) (λ s e. Unit {0}) a b (λ s stayed. text_by_region region inside a.state s stayed) (λ s e h. tt) went)
 
-  -- or that all is done is written there
-  pub texts_written : (t u : Option Told) → Says → Writes work (done_of journal) t u → KeepsTexts work journal t u
-  texts_written t u says =
-      from_to_more (λ a b. Went (IsWriting work text a.state) (λ s e. SparesOld (elsewhere work) a.state s e.call) a b) (λ a b. Went (KeepsText work journal a.state) (λ s e. Unit {0}) a b) t u
-      (λ a b is went. went_more (IsWriting work text a.state) (KeepsText work journal a.state) (λ s e. SparesOld (elsewhere work) a.state s e.call) (λ s e. Unit {0}) a b (λ s writing. by_writing a.state s writing) (λ s e h. tt) went)
+  -- or that all is done is written there, while it is so of whatever has stayed beside the work folder
+  pub texts_written : (t u : Option Told) → AreSound t → ((w : View) → StaysBeside work t w → Is w) → Says → Writes work (done_of journal) t u → KeepsTexts Is work journal t u
+  texts_written t u sound is_so says =
+      from_to_more (λ a b. Went (IsWriting work text a.state) (λ s e. SparesOld (elsewhere work) a.state s e.call) a b) (λ a b. Went (KeepsText Is work journal a.state) (λ s e. Unit {0}) a b) t u
+      (λ a b is went. went_more (IsWriting work text a.state) (KeepsText Is work journal a.state) (λ s e. SparesOld (elsewhere work) a.state s e.call) (λ s e. Unit {0}) a b (λ s writing. by_writing a s is writing) (λ s e h. tt) went)
     where
-      by_writing : (s0 s : State) → IsWriting work text s0 s → KeepsText work journal s0 s
-      by_writing s0 s writing = record {
-        tables = λ t among. let old = writing.journal.tables t among in elim old.3 [ inl same ↦ inl (old.0, old.1, same) | inr new ↦ inr (says, new) ];
+      beside : (a : Told) (s : State) → t ≡ Some a → IsWriting work text a.state s → StaysBeside work t (seen s)
+      beside a s here writing v root is_v apart =
+          under_stays (elsewhere work) root a.state s (sound a here) (elsewhere_at work root apart) (writing_as work text a.state s writing)
+          ∙ ap (under root) (sym (subst (λ o. IsSeen o v) here is_v))
+
+      by_writing : (a : Told) (s : State) → t ≡ Some a → IsWriting work text a.state s → KeepsText Is work journal a.state s
+      by_writing a s here writing = record {
+        tables = λ x among. let old = writing.journal.tables x among in elim old.3 [ inl same ↦ inl (old.0, old.1, same) | inr new ↦ inr (says, new, is_so (seen s) (beside a s here writing)) ];
         nodes = writing.journal.nodes;
         made = writing.journal.made;
       }
 
   abbrev Kept : (s0 s : State) → Table → Type 0
-  Kept s0 s t = ((u : Table) × IsTableOf s0 u × (t at ≡ u at)) ⊎ (Says × IsNewFile text s0 s (t at))
+  Kept s0 s t = ((u : Table) × IsTableOf s0 u × (t at ≡ u at)) ⊎ (Says × IsNewFile text s0 s (t at) × Is (seen s))
 
-  -- one after the other
-  text_then : (s0 s1 s : State) → IsSound s1 → KeepsText work journal s0 s1 → KeepsText work journal s1 s → KeepsText work journal s0 s
-  text_then s0 s1 s sound first later = record {
+  -- one after the other, of which the first brings nothing there
+  text_then : (s0 s1 s : State) → KeepsText (λ v. ⊥) work journal s0 s1 → KeepsText Is work journal s1 s → KeepsText Is work journal s0 s
+  text_then s0 s1 s first later = record {
     tables = λ t among. elim (later.tables t among) [
-      | inl earlier ↦ before t earlier.0 earlier.1 earlier.2 (first.tables earlier.0 earlier.1)
-      | inr new ↦ inr (new.0, record { number = new.1.number; is = new.1.is; new = (let one : s0.made ≤ s1.made = first.made in let two : s1.made ≤ new.1.number = new.1.new in omega (arith, one, two)); holds = new.1.holds })
+      | inl earlier ↦ before t earlier.0 earlier.2 (first.tables earlier.0 earlier.1)
+      | inr new ↦ inr (new.0, record { number = new.1.number; is = new.1.is; new = (let one : s0.made ≤ s1.made = first.made in let two : s1.made ≤ new.1.number = new.1.new in omega (arith, one, two)); holds = new.1.holds }, new.2)
     ];
     nodes = λ n old. later.nodes n (let grown : s0.made ≤ s1.made = first.made in omega (arith, old, grown)) ∙ first.nodes n old;
     made = (let one : s0.made ≤ s1.made = first.made in let two : s1.made ≤ s.made = later.made in omega (arith, one, two));
   }
     where
-      before : (t u : Table) → IsTableOf s1 u → t at ≡ u at → Kept s0 s1 u → Kept s0 s t
-      before t u among same (inl there) = inl (there.0, there.1, same ∙ there.2)
-      before t u among same (inr new) = inr (
-        new.0,
-        record {
-          number = new.1.number;
-          is = same ∙ new.1.is;
-          new = new.1.new;
-          holds = later.nodes new.1.number ((sound.tables u among).is_made at new.1.number new.1.is) ∙ new.1.holds;
-        },
-      )
+      before : (t u : Table) → t at ≡ u at → ((x : Table) × IsTableOf s0 x × (u at ≡ x at)) ⊎ (Says × IsNewFile text s0 s1 (u at) × ⊥) → Kept s0 s t
+      before t u same (inl there) = inl (there.0, there.1, same ∙ there.2)
+      before t u same (inr new) = absurd new.2
 
-  pub keeps_then : (t u w : Option Told) → AreSound u → KeepsTexts work journal t u → KeepsTexts work journal u w → KeepsTexts work journal t w
-  keeps_then None None None sound first later = tt
-  keeps_then (Some a) (Some b) (Some c) sound first later =
-      went_on (KeepsText work journal a.state) (λ s e. Unit {0}) a b c first
-      (went_more (KeepsText work journal b.state) (KeepsText work journal a.state) (λ s e. Unit {0}) (λ s e. Unit {0}) b c
-      (λ s kept. text_then a.state b.state s (sound b refl) (went_to (KeepsText work journal a.state) (λ s e. Unit {0}) a b first) kept) (λ s e h. tt) later)
-  keeps_then None (Some b) w sound first later = absurd first
-  keeps_then (Some a) None w sound first later = absurd first
-  keeps_then None None (Some c) sound first later = absurd later
-  keeps_then (Some a) (Some b) None sound first later = absurd later
+  pub keeps_then : (t u w : Option Told) → KeepsTexts (λ v. ⊥) work journal t u → KeepsTexts Is work journal u w → KeepsTexts Is work journal t w
+  keeps_then None None None first later = tt
+  keeps_then (Some a) (Some b) (Some c) first later =
+      went_on (KeepsText Is work journal a.state) (λ s e. Unit {0}) a b c
+      (went_more (KeepsText (λ v. ⊥) work journal a.state) (KeepsText Is work journal a.state) (λ s e. Unit {0}) (λ s e. Unit {0}) a b (λ s kept. text_more (λ v. ⊥) Is work journal a.state s (λ none. absurd none) kept) (λ s e h. tt) first)
+      (went_more (KeepsText Is work journal b.state) (KeepsText Is work journal a.state) (λ s e. Unit {0}) (λ s e. Unit {0}) b c
+      (λ s kept. text_then a.state b.state s (went_to (KeepsText (λ v. ⊥) work journal a.state) (λ s e. Unit {0}) a b first) kept) (λ s e h. tt) later)
+  keeps_then None (Some b) w first later = absurd first
+  keeps_then (Some a) None w first later = absurd first
+  keeps_then None None (Some c) first later = absurd later
+  keeps_then (Some a) (Some b) None first later = absurd later
 
-  text_same : (s : State) → KeepsText work journal s s
+  text_same : (s : State) → KeepsText Is work journal s s
   text_same s = record { tables = λ t among. inl (t, among, refl); nodes = λ n old. refl; made = omega arith }
 
   -- nothing has changed
-  pub texts_same : (t u : Option Told) → u ≡ t → KeepsTexts work journal t u
+  pub texts_same : (t u : Option Told) → u ≡ t → KeepsTexts Is work journal t u
   texts_same t u same =
-      from_to_same (λ a b. Went (KeepsText work journal a.state) (λ s e. Unit {0}) a b) t u same (λ a. went_nowhere (KeepsText work journal a.state) (λ s e. Unit {0}) a (text_same a.state))
+      from_to_same (λ a b. Went (KeepsText Is work journal a.state) (λ s e. Unit {0}) a b) t u same (λ a. went_nowhere (KeepsText Is work journal a.state) (λ s e. Unit {0}) a (text_same a.state))
 
   -- a settle
-  text_settled : (s : State) → KeepsText work journal s (changed s Settle)
+  text_settled : (s : State) → KeepsText Is work journal s (changed s Settle)
   text_settled s = record {
     tables = λ t among. elim among as (λ _. Kept s (changed s Settle) t) [
       | inl same ↦ inl (present s, present_is_table s, ap (λ (x : Table). x at) same)
@@ -147,13 +160,13 @@ module _ (work : Path) (journal : Journal) where
     made = omega arith;
   }
 
-  pub texts_settled : (t u : Option Told) (result : Result (Unit {0}) FolderFault) → Changes Settle t u result → KeepsTexts work journal t u
+  pub texts_settled : (t u : Option Told) (result : Result (Unit {0}) FolderFault) → Changes Settle t u result → KeepsTexts Is work journal t u
   texts_settled t u result =
-      from_to_more (λ a b. Steps Settle a b result) (λ a b. Went (KeepsText work journal a.state) (λ s e. Unit {0}) a b) t u
-      (λ a b is steps. went_by_call (KeepsText work journal a.state) (λ s e. Unit {0}) Settle a b result (text_same a.state) (λ allowed. text_settled a.state) (λ added allowed. text_same a.state) (λ outcome. tt) steps)
+      from_to_more (λ a b. Steps Settle a b result) (λ a b. Went (KeepsText Is work journal a.state) (λ s e. Unit {0}) a b) t u
+      (λ a b is steps. went_by_call (KeepsText Is work journal a.state) (λ s e. Unit {0}) Settle a b result (text_same a.state) (λ allowed. text_settled a.state) (λ added allowed. text_same a.state) (λ outcome. tt) steps)
 
   -- behind a settle a read finds it
-  stands_by : (s0 s : State) → IsSound s0 → s0.later ≡ [] → StandsIn work journal (seen s0) → KeepsText work journal s0 s → StandsIn work journal (seen s) ⊎ StandsIn work (done_of journal) (seen s)
+  stands_by : (s0 s : State) → IsSound s0 → s0.later ≡ [] → StandsIn work journal (seen s0) → KeepsText Is work journal s0 s → StandsIn work journal (seen s) ⊎ StandsIn work (done_of journal) (seen s)
   stands_by s0 s sound settled stands kept = elim (kept.tables (present s) (present_is_table s)) [
     | inl there ↦ inl (standing.stands_alike work journal (seen s) (seen s0) (same_seen (there.2 ∙ ap (λ (x : Table). x at) (only s0.later settled there.0 there.1))) stands)
     | inr new ↦ inr (standing.written_stands work (seen s) (done_of journal) (ap (found (λ n. (s.nodes n).now)) new.1.is ∙ ap (λ (node : Node). FileOf node.now) new.1.holds))
@@ -171,23 +184,30 @@ module _ (work : Path) (journal : Journal) where
           ∙ ap (λ (node : Node). FileOf node.now) (kept.nodes there.0 ((sound.tables (present s0) (present_is_table s0)).is_made at there.0 there.1))
           ∙ sym (ap (found (λ n. (s0.nodes n).now)) there.1)
 
-  pub journal_kept : (t u w : Option Told) (done : Unit {0}) (v : View) → AreSound u → IsSeen t v → StandsIn work journal v → Changes Settle t u (Ok done) → KeepsTexts work journal u w → KeepsJournal work journal t w
-  journal_kept (Some a) (Some b) (Some c) done v sound is stands changes kept = record {
-    moments = keeps_then (Some a) (Some b) (Some c) sound (texts_settled (Some a) (Some b) (Ok done) changes) kept;
+  pub journal_kept : (t u w : Option Told) (done : Unit {0}) (v : View) → AreSound u → IsSeen t v → StandsIn work journal v → Changes Settle t u (Ok done) → KeepsTexts (λ x. ⊥) work journal t u
+      → KeepsTexts Is work journal u w → KeepsJournal Is work journal t w
+  journal_kept (Some a) (Some b) (Some c) done v sound is stands changes settled kept = record {
+    moments = keeps_then (Some a) (Some b) (Some c) settled kept;
     stands = λ x is_x. subst (λ y. StandsIn work journal y ⊎ StandsIn work (done_of journal) y) (sym is_x)
         (stands_by b.state c.state (sound b refl) (settle_lasts (Some a) (Some b) done changes)
         (subst (StandsIn work journal) (settle_seen (Some a) (Some b) done changes v is) stands)
-        (went_to (KeepsText work journal b.state) (λ s e. Unit {0}) b c kept));
+        (went_to (KeepsText Is work journal b.state) (λ s e. Unit {0}) b c kept));
   }
-  journal_kept None u w done v sound is stands changes kept = absurd is
-  journal_kept (Some a) None w done v sound is stands changes kept = absurd changes
-  journal_kept (Some a) (Some b) None done v sound is stands changes kept = absurd kept
+  journal_kept None u w done v sound is stands changes settled kept = absurd is
+  journal_kept (Some a) None w done v sound is stands changes settled kept = absurd changes
+  journal_kept (Some a) (Some b) None done v sound is stands changes settled kept = absurd kept
 
-  pub journal_fell : (t u : Option Told) (result : Result (Unit {0}) FolderFault) (v : View) → IsSeen t v → StandsIn work journal v → Changes Settle t u result → KeepsJournal work journal t u
+  pub journal_fell : (t u : Option Told) (result : Result (Unit {0}) FolderFault) (v : View) → IsSeen t v → StandsIn work journal v → Changes Settle t u result → KeepsJournal Is work journal t u
   journal_fell t u result v is stands changes = record {
     moments = texts_settled t u result changes;
     stands = λ x is_x. inl (subst (StandsIn work journal) (one_view t v x is (settle_seen_back t u result changes x is_x)) stands);
   }
+
+-- more may be so while each journal stands
+pub journals_more : (P Q : View → Journal → View → Type 0) (work : Path) (t u : Option Told) → ((v : View) (journal : Journal) → IsSeen t v → (w : View) → P v journal w → Q v journal w) → KeepsEachJournal P work t u → KeepsEachJournal Q work t u
+journals_more P Q work t u more kept v journal is good stands =
+    let keeps = kept v journal is good stands in
+    record { moments = texts_more (P v journal) (Q v journal) work journal t u (λ a here. more v journal is) keeps.moments; stands = keeps.stands }
 
 -- ---- what is left in the work folder
 

@@ -1,5 +1,6 @@
 mod Beginnings
 mod Blaming
+mod Bringing
 mod Causing
 mod Compared
 mod Completing

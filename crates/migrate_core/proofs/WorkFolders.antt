@@ -107,7 +107,7 @@ changing_moves work at Comes Goes root t u apart changes =
     (λ s e. ChangesOnly Comes Goes e.call × SparesOld (apart_from at) a.state s e.call) (λ s e. OnlyBrings work root s e.call) a b
     (λ s changing. changing.others) (λ s e spares. spared_brings work (apart_from at) root (apart_at at root apart) s e.call spares.1.0) went) changes
 
-writing_as : (work : Path) (text : List ℕ) (s0 s : State) → IsWriting work text s0 s → IsAsBefore (elsewhere work) s0 s
+pub writing_as : (work : Path) (text : List ℕ) (s0 s : State) → IsWriting work text s0 s → IsAsBefore (elsewhere work) s0 s
 writing_as work text s0 s writing = record {
   tables = λ t among. (let old = writing.journal.tables t among in (old.0, old.1, old.2));
   seen = writing.journal.seen;

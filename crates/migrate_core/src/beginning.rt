@@ -1,6 +1,7 @@
 //! Beginning a migration.
 ghost use Rattle.std.specs.Prelude.{◌≡◌, ◌⊎◌, ◌≤◌, [], IfErr, IfOk, IsTrue, Ok, OnOk};
 ghost use Rattle.port_model.specs.Counts.{CountRose};
+ghost use Rattle.port_model.specs.Draws.{Draws};
 ghost use Rattle.folder_spec.specs.Seen.{IfSeen};
 ghost use Rattle.folder_model.specs.Text.{IsParsed};
 ghost use Rattle.migration_spec.specs.Alone.{KeepsGuarded, Finished, Unbegun};
@@ -12,7 +13,7 @@ ghost use Rattle.migrate_core.specs.Completing.{CanBegin, IsOfChance};
 ghost use Rattle.migrate_core.specs.Copying.{MayBegin, StayGood};
 ghost use Rattle.migrate_core.specs.Drawing.{DrewBy};
 ghost use Rattle.migrate_core.specs.Faults.{Blamed, IsOfTest, is_of_apart, is_of_begin};
-ghost use Rattle.migrate_core.specs.Lasting.{Finishes, FinishesSettled};
+ghost use Rattle.migrate_core.specs.Lasting.{BringsBetween, BringsJournal, Finishes, FinishesSettled};
 ghost use Rattle.migrate_core.specs.Leading.{KeepsSettled, LeadsEach};
 ghost use Rattle.migrate_core.specs.Limits.{StopsElsewhere, EndsBy, IsOfLimit, PassesInTree};
 ghost use Rattle.migrate_core.specs.Moved.{IsTidyWork, Moved, MovesTree, Placed, lacking};
@@ -70,6 +71,7 @@ pub fn begin<F: Folder, R: Randoms>(
     ensures lasts { OnOk result (Lasts (F.told folder.new)) }
     ensures guard { (g : Migration) → IsAsked g names source.now target.now work.now → IfSeen (F.told folder.old) (λ v. AreOpenedBy g source_pass.now target_pass.now v) → KeepsGuarded g (F.told folder.old) (F.told folder.new) }
     ensures tidy { IfOk result (λ done. IfSeen (F.told folder.new) (λ v. IsTidyWork work.now v)) }
+    ensures journal { IfSeen (F.told folder.old) (λ v. BringsJournal names source.now target.now work.now source_pass.now target_pass.now (F.told folder.old) (F.told folder.new) v) }
     ensures moves { MovesOnly work.now target.now (F.told folder.old) (F.told folder.new) }
     ensures grows { F.faults folder.old ≤ F.faults folder.new }
     ensures random { R.faults random.old ≤ R.faults random.new }
@@ -79,6 +81,7 @@ pub fn begin<F: Folder, R: Randoms>(
     ensures cause { IfSeen (F.told folder.old) (λ v. Unless result (Begins names source.now target.now work.now source_pass.now target_pass.now v result)) }
     ensures written { IfSeen (F.told folder.old) (λ v. MayWriteTree result names source.now target.now work.now source_pass.now target_pass.now (R.left random.old) (R.left random.new) (F.told folder.old) (F.told folder.new)) }
     ensures tested { ChangesNothing (F.told folder.old) (F.told folder.new) ⊎ IfSeen (F.told folder.old) (λ v. IfErr result IsOfPlacing × PassesBegin names source.now target.now work.now source_pass.now target_pass.now v) }
+    ensures undrawn { Draws (R.left random.old) (R.left random.new) [] ⊎ IfSeen (F.told folder.old) (λ v. IfErr result IsOfPlacing × PassesBegin names source.now target.now work.now source_pass.now target_pass.now v) }
     ensures completes { (g : Migration) → IfSeen (F.told folder.old) (λ v. IsAsked g names source.now target.now work.now → AreOpenedBy g source_pass.now target_pass.now v → CanBegin g v → IfErr result IsOfChance) }
     ensures too_long { IfErr result (IsOfLimit (PassesInTree names source.now target.now source_pass.now target_pass.now (F.told folder.old) (F.told folder.new))) }
     ensures shared { IfErr result (IsOfTaken (SharesInTree names source.now target.now source_pass.now target_pass.now (R.left random.old) (R.left random.new) (F.told folder.old) (F.told folder.new))) }
@@ -121,6 +124,7 @@ fn begin_settled<F: Folder, R: Randoms>(
     ensures lasts { OnOk result (Lasts (F.told folder.new)) }
     ensures guard { (g : Migration) → IsAsked g names source.now target.now work.now → IfSeen (F.told folder.old) (λ v. AreOpenedBy g source_pass.now target_pass.now v) → KeepsSettled g (F.told folder.old) (F.told folder.new) }
     ensures tidy { IfOk result (λ done. IfSeen (F.told folder.new) (λ v. IsTidyWork work.now v)) }
+    ensures journal { IfSeen (F.told folder.old) (λ v. BringsJournal names source.now target.now work.now source_pass.now target_pass.now (F.told folder.old) (F.told folder.new) v) }
     ensures moves { MovesOnly work.now target.now (F.told folder.old) (F.told folder.new) }
     ensures grows { F.faults folder.old ≤ F.faults folder.new }
     ensures random { R.faults random.old ≤ R.faults random.new }
@@ -131,6 +135,7 @@ fn begin_settled<F: Folder, R: Randoms>(
     ensures shared { IfErr result (IsOfTaken (SharesInTree names source.now target.now source_pass.now target_pass.now (R.left random.old) (R.left random.new) (F.told folder.old) (F.told folder.new))) }
     ensures written { IfSeen (F.told folder.old) (λ v. MayWriteTree result names source.now target.now work.now source_pass.now target_pass.now (R.left random.old) (R.left random.new) (F.told folder.old) (F.told folder.new)) }
     ensures tested { (F.told folder.new ≡ F.told folder.old) ⊎ IfSeen (F.told folder.old) (λ v. IfErr result IsOfPlacing × PassesBegin names source.now target.now work.now source_pass.now target_pass.now v) }
+    ensures undrawn { Draws (R.left random.old) (R.left random.new) [] ⊎ IfSeen (F.told folder.old) (λ v. IfErr result IsOfPlacing × PassesBegin names source.now target.now work.now source_pass.now target_pass.now v) }
 {
     draws_compose();
     roots_have_one_answer();
@@ -164,6 +169,7 @@ fn begin_with<F: Folder, R: Randoms>(
     ensures placed { Placed sides.now.names sides.now.source sides.now.target (F.told folder.old) result }
     ensures guard { LeadsEach sides.now.names sides.now.source sides.now.target work.now Unbegun Finished (F.told folder.old) (F.told folder.new) result }
     ensures tidy { IfOk result (λ done. IfSeen (F.told folder.new) (λ v. IsTidyWork work.now v)) }
+    ensures journal { BringsBetween sides.now.names sides.now.source sides.now.target work.now (F.told folder.old) (F.told folder.new) }
     ensures moves { MovesOnly work.now sides.now.target.root (F.told folder.old) (F.told folder.new) }
     ensures grows { F.faults folder.old ≤ F.faults folder.new }
     ensures random { R.faults random.old ≤ R.faults random.new }
@@ -173,6 +179,7 @@ fn begin_with<F: Folder, R: Randoms>(
     ensures ends { EndsBy (StayGood sides.now.source sides.now.target (F.told folder.old) (F.told folder.new)) (SharesWhereTidy sides.now.names sides.now.source sides.now.target (R.left random.old) (R.left random.new) (F.told folder.old) (F.told folder.new)) sides.now.names sides.now.source sides.now.target (F.told folder.new) result }
     ensures written { MayWriteBy (journal_texts sides.now.names sides.now.source.root sides.now.target.root) result sides.now.names sides.now.source sides.now.target work.now (R.left random.old) (R.left random.new) (F.told folder.old) (F.told folder.new) }
     ensures tested { (F.told folder.new ≡ F.told folder.old) ⊎ IfSeen (F.told folder.old) (λ v. IfErr result IsOfPlacing × TestsToBegin sides.now.names sides.now.source sides.now.target v all_pass (Ok tt)) }
+    ensures undrawn { Draws (R.left random.old) (R.left random.new) [] ⊎ IfSeen (F.told folder.old) (λ v. IfErr result IsOfPlacing × TestsToBegin sides.now.names sides.now.source sides.now.target v all_pass (Ok tt)) }
 {
     draws_compose();
     walks_tell_the_tree();
@@ -222,6 +229,7 @@ fn move_all<F: Folder, R: Randoms>(
     ensures placed { IfOk result (λ done. IfSeen (F.told folder.old) (λ v. done.placed ≡ lacking [] items.now.mapped.items)) }
     ensures guard { LeadsEach sides.now.names sides.now.source sides.now.target work.now Unbegun Finished (F.told folder.old) (F.told folder.new) result }
     ensures tidy { IfOk result (λ done. IfSeen (F.told folder.new) (λ v. IsTidyWork work.now v)) }
+    ensures journal { BringsBetween sides.now.names sides.now.source sides.now.target work.now (F.told folder.old) (F.told folder.new) }
     ensures moves { MovesOnly work.now sides.now.target.root (F.told folder.old) (F.told folder.new) }
     ensures grows { F.faults folder.old ≤ F.faults folder.new }
     ensures random { R.faults random.old ≤ R.faults random.new }

@@ -18,10 +18,10 @@ ghost use Rattle.migrate_core.specs.Causes.{IsStop, StopsLater, StopsSeen, nothi
 ghost use Rattle.migrate_core.specs.Copying.{CopiesAll, HasCopied};
 ghost use Rattle.migrate_core.specs.Drawing.{DrewBy};
 ghost use Rattle.migrate_core.specs.Faults.{Blamed, IsOfTest, is_of_apart};
-ghost use Rattle.migrate_core.specs.Lasting.{Clears, ClearsReady, KeepsTexts};
+ghost use Rattle.migrate_core.specs.Lasting.{Clears, ClearsReady, KeepsTexts, StaysBeside};
 ghost use Rattle.migrate_core.specs.Leading.{FinishesEach, LeadsTold, progress_of};
 ghost use Rattle.migrate_core.specs.Limits.{StopsElsewhere, EndsBy, PassesSeen};
-ghost use Rattle.migrate_core.specs.Moved.{Moved, StaysTidyWork, done_of, lacking};
+ghost use Rattle.migrate_core.specs.Moved.{HaveMappedTree, Moved, StaysTidyWork, done_of, lacking};
 ghost use Rattle.migrate_core.specs.Moving.{MovesOnly};
 ghost use Rattle.migrate_core.specs.Written.{WritesBeside, WritesBy, done_texts, lacked};
 ghost use Rattle.migrate_core.specs.Sharing.{IsFilled, SharesFrom};
@@ -87,7 +87,7 @@ pub(crate) fn go_on<F: Folder, R: Randoms>(
     ensures tidy { IfOk result (λ done. StaysTidyWork work.now (F.told folder.old) (F.told folder.new)) }
     ensures clears { OnOk result (Clears work.now (F.told folder.old) (F.told folder.new)) }
     ensures lasts { OnOk result (Lasts (F.told folder.new)) }
-    ensures journal { KeepsTexts work.now journal (F.told folder.old) (F.told folder.new) }
+    ensures journal { KeepsTexts (HaveMappedTree sides.now.names sides.now.source sides.now.target) work.now journal (F.told folder.old) (F.told folder.new) }
     ensures moves { MovesOnly work.now sides.now.target.root (F.told folder.old) (F.told folder.new) }
     ensures grows { F.faults folder.old ≤ F.faults folder.new }
     ensures random { R.faults random.old ≤ R.faults random.new }
@@ -128,7 +128,7 @@ pub(crate) fn finish<F: Folder>(
     ensures tidy { IfOk result (λ done. StaysTidyWork work.now (F.told folder.old) (F.told folder.new)) }
     ensures clears { OnOk result (ClearsReady work.now (F.told folder.old) (F.told folder.new)) }
     ensures lasts { OnOk result (Lasts (F.told folder.new)) }
-    ensures journal { KeepsTexts work.now journal (F.told folder.old) (F.told folder.new) }
+    ensures journal { KeepsTexts (HaveMappedTree sides.now.names sides.now.source sides.now.target) work.now journal (F.told folder.old) (F.told folder.new) }
     ensures moves { MovesOnly work.now sides.now.target.root (F.told folder.old) (F.told folder.new) }
     ensures grows { F.faults folder.old ≤ F.faults folder.new }
     ensures blamed { IfErr result (Blamed is_of_apart (CountRose (F.faults folder.old) (F.faults folder.new)) ⊥) }
@@ -192,7 +192,7 @@ fn say_done<F: Folder>(
     ensures tidy { OnOk result (StaysTidyWork work.now (F.told folder.old) (F.told folder.new)) }
     ensures clears { OnOk result (ClearsReady work.now (F.told folder.old) (F.told folder.new)) }
     ensures lasts { OnOk result (Lasts (F.told folder.new)) }
-    ensures journal { KeepsTexts work.now journal (F.told folder.old) (F.told folder.new) }
+    ensures journal { KeepsTexts (StaysBeside work.now (F.told folder.old)) work.now journal (F.told folder.old) (F.told folder.new) }
     ensures guard { FinishesEach work.now journal (F.told folder.old) (F.told folder.new) result }
     ensures moves { (root : Path) → AreApart root work.now → MovesOnly work.now root (F.told folder.old) (F.told folder.new) }
     ensures grows { F.faults folder.old ≤ F.faults folder.new }

@@ -1,6 +1,7 @@
 //! Going on with a migration.
 ghost use Rattle.std.specs.Prelude.{◌≡◌, ◌≢◌, ◌⊎◌, ◌≤◌, ◌∷◌, [], IfErr, IfOk, Ok, OnOk};
 ghost use Rattle.port_model.specs.Counts.{CountRose};
+ghost use Rattle.port_model.specs.Draws.{Draws};
 ghost use Rattle.folder_spec.specs.Seen.{IfSeen, IsSeen};
 ghost use Rattle.folder_spec.specs.View.{NoEntry, View};
 ghost use Rattle.move_journal.specs.Journal.{IsJournal, journal_text};
@@ -14,10 +15,10 @@ ghost use Rattle.migrate_core.specs.Completing.{CanResume, IsOfChance};
 ghost use Rattle.migrate_core.specs.Copying.{MayBegin, StayGood};
 ghost use Rattle.migrate_core.specs.Drawing.{DrewBy};
 ghost use Rattle.migrate_core.specs.Faults.{Blamed, IsOfTest, is_of_resume};
-ghost use Rattle.migrate_core.specs.Lasting.{Clears, EndsEach, EndsEachSettled, KeepsEachJournal, KeepsEachText, KeepsTexts};
+ghost use Rattle.migrate_core.specs.Lasting.{Clears, EndsEach, EndsEachSettled, HaveToldTrees, KeepsEachJournal, KeepsEachText, KeepsTexts};
 ghost use Rattle.migrate_core.specs.Leading.{KeepsSettled, LeadsTold, progress_of};
 ghost use Rattle.migrate_core.specs.Limits.{StopsElsewhere, EndsBy, IsOfLimit, PassesAsTold, PassesInTree, PassesSeen};
-ghost use Rattle.migrate_core.specs.Moved.{done_of, Moved, MovesTold, MovesTree, Placed, lacking};
+ghost use Rattle.migrate_core.specs.Moved.{HaveMappedTree, done_of, Moved, MovesTold, MovesTree, Placed, lacking};
 ghost use Rattle.migrate_core.specs.Moving.{MovesOnly};
 ghost use Rattle.migrate_core.specs.Written.{MayWriteBy, MayWriteTold, MayWriteTreeBy, WritesBeside, WritesBy, done_texts, lacked};
 ghost use Rattle.migrate_core.specs.Sides.{AllowsEach, AreItemsToMove, AreTold, IsInUse, IsMappedWalk};
@@ -69,7 +70,7 @@ pub fn resume<F: Folder, R: Randoms>(
     ensures finishes { OnOk result (EndsEach work.now source_pass.now target_pass.now (F.told folder.old) (F.told folder.new)) }
     ensures lasts { OnOk result (Lasts (F.told folder.new)) }
     ensures clears { OnOk result (Clears work.now (F.told folder.old) (F.told folder.new)) }
-    ensures journal { KeepsEachJournal work.now (F.told folder.old) (F.told folder.new) }
+    ensures journal { KeepsEachJournal (HaveToldTrees source_pass.now target_pass.now) work.now (F.told folder.old) (F.told folder.new) }
     ensures grows { F.faults folder.old ≤ F.faults folder.new }
     ensures random { R.faults random.old ≤ R.faults random.new }
     ensures blamed { IfErr result (Blamed is_of_resume (CountRose (F.faults folder.old) (F.faults folder.new)) (CountRose (R.faults random.old) (R.faults random.new))) }
@@ -77,6 +78,7 @@ pub fn resume<F: Folder, R: Randoms>(
     ensures cause { IfSeen (F.told folder.old) (λ v. Unless result (Resumes work.now source_pass.now target_pass.now v result)) }
     ensures written { IfSeen (F.told folder.old) (λ v. MayWriteTold result work.now source_pass.now target_pass.now (R.left random.old) (R.left random.new) (F.told folder.old) (F.told folder.new) v) }
     ensures tested { ChangesNothing (F.told folder.old) (F.told folder.new) ⊎ IfSeen (F.told folder.old) (λ v. IfErr result IsOfPlacing × PassesResume work.now source_pass.now target_pass.now v) }
+    ensures undrawn { Draws (R.left random.old) (R.left random.new) [] ⊎ IfSeen (F.told folder.old) (λ v. IfErr result IsOfPlacing × PassesResume work.now source_pass.now target_pass.now v) }
     ensures completes { (g : Migration) → IfSeen (F.told folder.old) (λ v. g.work ≡ work.now → AreOpenedBy g source_pass.now target_pass.now v → CanResume g v → IfErr result IsOfChance) }
     ensures too_long { IfSeen (F.told folder.old) (λ v. IfErr result (IsOfLimit (PassesAsTold work.now source_pass.now target_pass.now (F.told folder.old) (F.told folder.new) v))) }
 {
@@ -102,7 +104,7 @@ fn resume_settled<F: Folder, R: Randoms>(
     ensures moved { IfOk result (λ done. IfSeen (F.told folder.old) (λ v. MovesTold work.now source_pass.now target_pass.now done (F.told folder.old) (F.told folder.new) v)) }
     ensures clears { OnOk result (Clears work.now (F.told folder.old) (F.told folder.new)) }
     ensures lasts { OnOk result (Lasts (F.told folder.new)) }
-    ensures journal { KeepsEachText work.now (F.told folder.old) (F.told folder.new) }
+    ensures journal { KeepsEachText (HaveToldTrees source_pass.now target_pass.now) work.now (F.told folder.old) (F.told folder.new) }
     ensures finishes { OnOk result (EndsEachSettled work.now source_pass.now target_pass.now (F.told folder.old) (F.told folder.new)) }
     ensures grows { F.faults folder.old ≤ F.faults folder.new }
     ensures random { R.faults random.old ≤ R.faults random.new }
@@ -112,6 +114,7 @@ fn resume_settled<F: Folder, R: Randoms>(
     ensures too_long { IfSeen (F.told folder.old) (λ v. IfErr result (IsOfLimit (PassesAsTold work.now source_pass.now target_pass.now (F.told folder.old) (F.told folder.new) v))) }
     ensures written { IfSeen (F.told folder.old) (λ v. MayWriteTold result work.now source_pass.now target_pass.now (R.left random.old) (R.left random.new) (F.told folder.old) (F.told folder.new) v) }
     ensures tested { (F.told folder.new ≡ F.told folder.old) ⊎ IfSeen (F.told folder.old) (λ v. IfErr result IsOfPlacing × PassesResume work.now source_pass.now target_pass.now v) }
+    ensures undrawn { Draws (R.left random.old) (R.left random.new) [] ⊎ IfSeen (F.told folder.old) (λ v. IfErr result IsOfPlacing × PassesResume work.now source_pass.now target_pass.now v) }
 {
     draws_compose();
     journals_are_read_back();
@@ -157,7 +160,7 @@ fn resume_told<F: Folder, R: Randoms>(
     ensures moved { IfOk result (λ done. MovesTree journal.names journal.source journal.target work.now source_pass.now target_pass.now done (F.told folder.old) (F.told folder.new)) }
     ensures clears { OnOk result (Clears work.now (F.told folder.old) (F.told folder.new)) }
     ensures lasts { OnOk result (Lasts (F.told folder.new)) }
-    ensures journal { KeepsTexts work.now journal (F.told folder.old) (F.told folder.new) }
+    ensures journal { IfSeen (F.told folder.old) (λ v. KeepsTexts (HaveToldTrees source_pass.now target_pass.now v journal) work.now journal (F.told folder.old) (F.told folder.new)) }
     ensures finishes { OnOk result (EndsEachSettled work.now source_pass.now target_pass.now (F.told folder.old) (F.told folder.new)) }
     ensures grows { F.faults folder.old ≤ F.faults folder.new }
     ensures random { R.faults random.old ≤ R.faults random.new }
@@ -167,6 +170,7 @@ fn resume_told<F: Folder, R: Randoms>(
     ensures too_long { IfErr result (IsOfLimit (PassesInTree journal.names journal.source journal.target source_pass.now target_pass.now (F.told folder.old) (F.told folder.new))) }
     ensures written { IfSeen (F.told folder.old) (λ v. MayWriteTreeBy (λ items. done_texts journal) result journal.names journal.source journal.target work.now source_pass.now target_pass.now (R.left random.old) (R.left random.new) (F.told folder.old) (F.told folder.new)) }
     ensures tested { (F.told folder.new ≡ F.told folder.old) ⊎ IfSeen (F.told folder.old) (λ v. IfErr result IsOfPlacing × PassesTold work.now source_pass.now target_pass.now journal v) }
+    ensures undrawn { Draws (R.left random.old) (R.left random.new) [] ⊎ IfSeen (F.told folder.old) (λ v. IfErr result IsOfPlacing × PassesTold work.now source_pass.now target_pass.now journal v) }
 {
     draws_compose();
     journals_are_read_back();
@@ -223,7 +227,7 @@ fn resume_with<F: Folder, R: Randoms>(
     ensures moved { Moved journal.names sides.now.source sides.now.target work.now (F.told folder.new) result }
     ensures clears { OnOk result (Clears work.now (F.told folder.old) (F.told folder.new)) }
     ensures lasts { OnOk result (Lasts (F.told folder.new)) }
-    ensures journal { KeepsTexts work.now journal (F.told folder.old) (F.told folder.new) }
+    ensures journal { KeepsTexts (HaveMappedTree sides.now.names sides.now.source sides.now.target) work.now journal (F.told folder.old) (F.told folder.new) }
     ensures placed { Placed sides.now.names sides.now.source sides.now.target (F.told folder.old) result }
     ensures guard { LeadsTold sides.now.source sides.now.target work.now journal (progress_of journal.phase) Finished (F.told folder.old) (F.told folder.new) result }
     ensures moves { MovesOnly work.now sides.now.target.root (F.told folder.old) (F.told folder.new) }
@@ -235,6 +239,7 @@ fn resume_with<F: Folder, R: Randoms>(
     ensures ends { EndsBy (StayGood sides.now.source sides.now.target (F.told folder.old) (F.told folder.new)) (Unit {0}) sides.now.names sides.now.source sides.now.target (F.told folder.new) result }
     ensures written { IfSeen (F.told folder.old) (λ v. MayWriteBy (λ items. done_texts journal) result journal.names sides.now.source sides.now.target work.now (R.left random.old) (R.left random.new) (F.told folder.old) (F.told folder.new)) }
     ensures tested { (F.told folder.new ≡ F.told folder.old) ⊎ IfSeen (F.told folder.old) (λ v. IfErr result IsOfPlacing × TestsToResume sides.now.source sides.now.target journal v all_pass (Ok tt)) }
+    ensures undrawn { Draws (R.left random.old) (R.left random.new) [] ⊎ IfSeen (F.told folder.old) (λ v. IfErr result IsOfPlacing × TestsToResume sides.now.source sides.now.target journal v all_pass (Ok tt)) }
 {
     draws_compose();
     walks_tell_the_tree();
@@ -354,7 +359,7 @@ fn place_rest<F: Folder, R: Randoms>(
     ensures moved { Moved journal.names sides.now.source sides.now.target work.now (F.told folder.new) result }
     ensures clears { OnOk result (Clears work.now (F.told folder.old) (F.told folder.new)) }
     ensures lasts { OnOk result (Lasts (F.told folder.new)) }
-    ensures journal { KeepsTexts work.now journal (F.told folder.old) (F.told folder.new) }
+    ensures journal { KeepsTexts (HaveMappedTree sides.now.names sides.now.source sides.now.target) work.now journal (F.told folder.old) (F.told folder.new) }
     ensures placed { IfOk result (λ done. IfSeen (F.told folder.old) (λ v. done.placed ≡ lacking target.now.items items.now.mapped.items)) }
     ensures guard { LeadsTold sides.now.source sides.now.target work.now journal (progress_of journal.phase) Finished (F.told folder.old) (F.told folder.new) result }
     ensures moves { MovesOnly work.now sides.now.target.root (F.told folder.old) (F.told folder.new) }

@@ -22,7 +22,7 @@ use Rattle.migrate_core.specs.Causes.{IsOfPlacing}
 use Rattle.migrate_core.specs.Completing.{CanBegin, CanResume, IsOfChance}
 use Rattle.migrate_core.specs.Drawing.{Drew, DrewBy}
 use Rattle.migrate_core.specs.Faults as causes
-use Rattle.migrate_core.specs.Lasting.{KeepsEachJournal}
+use Rattle.migrate_core.specs.Lasting.{HaveToldTrees, KeepsEachJournal}
 use Rattle.migrate_core.specs.Moving.{MovesOnly, OnlyBrings}
 use Rattle.migrate_core.specs.declared.fault.MoveFault.{MoveFault}
 use Rattle.migrate_core.specs.declared.fault.MoveFault.TheVariants as moves
@@ -47,7 +47,7 @@ use Rattle.vault_walk.specs.declared.fault.WalkFault.TheVariants as walks
 use Rattle.work_folder.specs.declared.fault.WorkFault.TheVariants as works
 use Rattle.vault_read.specs.declared.fault.LoadFault.{LoadFault}
 use Rattle.migrate_core.proofs.Drawing.{drew_for}
-use Rattle.migrate_core.proofs.Lastings.{texts_same}
+use Rattle.migrate_core.proofs.Lastings.{journals_more, texts_same}
 use Rattle.migration_commands.specs.Migrate.{HasMigrated, IsAskedFor, MigratesApart, MigratesTree, Pair, first_overlap, pair}
 use Rattle.migration_commands.specs.Migrate as migrating
 use Rattle.migration_answers.specs.Faults.{of_move}
@@ -235,11 +235,19 @@ pub journal_since : (work : Path) (P : Journal → Option Told → Type 0) (told
 journal_since work P told mid same = subst (λ t. OfJournal work t (λ journal. P journal t)) same
 
 -- where nothing is changed it stands
-pub journal_same : (work : Path) (told told' : Option Told) → told' ≡ told → KeepsEachJournal work told told'
-journal_same work told told' same v journal seen is stands = record {
-  moments = texts_same work journal told told' same;
+pub journal_same : (Is : View → Journal → View → Type 0) (work : Path) (told told' : Option Told) → told' ≡ told → KeepsEachJournal Is work told told'
+journal_same Is work told told' same v journal seen is stands = record {
+  moments = texts_same (Is v journal) work journal told told' same;
   stands = λ w is_w. inl (subst (StandsIn work journal) (one_view told v w seen (subst (λ t. IsSeen t w) same is_w)) stands);
 }
+
+-- what is done of it in the end is done from the start
+pub journals_since : (resuming : Resuming) (s t : List ℕ) (told mid told' : Option Told) → mid ≡ told → IfSeen told (λ v. ArePhrases resuming.passes s t v) → KeepsEachJournal (HaveToldTrees s t) resuming.work mid told'
+    → KeepsEachJournal (resuming_on.HaveTrees resuming) resuming.work told told'
+journals_since resuming s t told mid told' same phrases kept =
+    journals_more (HaveToldTrees s t) (resuming_on.HaveTrees resuming) resuming.work told told'
+    (λ v journal is w trees. record { source_pass = s; target_pass = t; phrases = phrases v is; trees = trees })
+    (subst (λ o. KeepsEachJournal (HaveToldTrees s t) resuming.work o told') same kept)
 
 -- a journal that stands is read
 pub journal_missing : ReadsBack → (work : Path) (v : View) (result : Result Journal JournalFault) → ((j : Journal) → ¬ GivesBack j result) → ReadsAs (journal_bytes v work) result → resuming_on.IsFoundJournal work v None
@@ -438,7 +446,7 @@ module _ (resuming : Resuming) where
 
   pub resume_stopped : (answer : Answer) (told told' : Option Told) (taken : Option (List ℕ)) (stream stream' : Option ByteStream) → IsTrue (is_of_told_stop answer)
       → Drew (answer ≡ ZeroRandom) stream stream' → IfSeen told (λ v. resuming_on.MayCome resuming answer told told' stream stream' v)
-      → ((g : Migration) → IfSeen told (λ v. IsResumedFor g resuming v → KeepsAll g told told')) → Brings told told' → KeepsEachJournal resuming.work told told'
+      → ((g : Migration) → IfSeen told (λ v. IsResumedFor g resuming v → KeepsAll g told told')) → Brings told told' → KeepsEachJournal (resuming_on.HaveTrees resuming) resuming.work told told'
       → ((g : Migration) → IfSeen told (λ v. IsResumedFor g resuming v → CanResume g v → Completes answer)) → Resumes resuming answer told told' taken taken stream stream'
   resume_stopped answer told told' taken stream stream' own drew comes keeps moves journal completes = record {
     own = or_left (is_of_told_stop answer) (is_of_end answer) own;
@@ -455,7 +463,7 @@ module _ (resuming : Resuming) where
   pub resume_printed : (done : moved.Done) (answer : Answer) (told told' : Option Told) (taken taken' : Option (List ℕ)) (stream stream' : Option ByteStream) → HasResumed resuming done told told'
       → Drew (comes_to done ≡ Err ZeroRandom) stream stream'
       → IfSeen told (λ v. resuming_on.ComesTo resuming (λ outcome. outcome ≡ Ok done) told told' stream stream' v)
-      → ((g : Migration) → IfSeen told (λ v. IsResumedFor g resuming v → KeepsAll g told told')) → Brings told told' → KeepsEachJournal resuming.work told told'
+      → ((g : Migration) → IfSeen told (λ v. IsResumedFor g resuming v → KeepsAll g told told')) → Brings told told' → KeepsEachJournal (resuming_on.HaveTrees resuming) resuming.work told told'
       → PrintsText (done_text done) answer taken taken' → IsPrinted answer → Resumes resuming answer told told' taken taken' stream stream'
   resume_printed done answer told told' taken taken' stream stream' has drew comes keeps moves journal prints is_printed = record {
     own = printed_is_own is_of_told_stop answer refl is_printed;

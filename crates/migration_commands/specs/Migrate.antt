@@ -1,5 +1,5 @@
 -- `migrate`: moving the tree of one vault into another, which is empty, through a new work folder.
-use Rattle.std.specs.Prelude.{◌≡◌, ◌≢◌, ◌⊎◌, ℕ, List, if◌then◌else◌, Option, Some, None, IfErr, IsTrue, MatchOption}
+use Rattle.std.specs.Prelude.{◌≡◌, ◌≢◌, ◌⊎◌, ℕ, List, [], if◌then◌else◌, Option, Some, None, IfErr, IsTrue, MatchOption}
 use Rattle.std.specs.Io.KnownBytes.{Keeps}
 use Rattle.folder_spec.specs.Event.{Told}
 use Rattle.folder_spec.specs.Path.{Path}
@@ -8,7 +8,7 @@ use Rattle.folder_spec.specs.View.{View}
 use Rattle.migrate_core.specs.Causes.{Begins, IsOfPlacing, PassesBegin, Unless}
 use Rattle.migrate_core.specs.Completing.{CanBegin}
 use Rattle.migrate_core.specs.Drawing.{Drew}
-use Rattle.migrate_core.specs.Lasting.{Finishes}
+use Rattle.migrate_core.specs.Lasting.{BringsJournal, Finishes}
 use Rattle.migrate_core.specs.Limits.{IsOfLimit, PassesInTree}
 use Rattle.migrate_core.specs.Moved.{IsTidyWork, MovesTree}
 use Rattle.migrate_core.specs.Moving.{MovesOnly}
@@ -17,7 +17,7 @@ use Rattle.migrate_core.specs.Written.{MayWriteTree}
 use Rattle.migrate_core.specs.declared.fault.MoveFault.{MoveFault}
 use Rattle.migrate_core.specs.declared.fault.MoveFault.TheVariants.{Load}
 use Rattle.migrate_core.specs.declared.placing.Done as moved
-use Rattle.port_model.specs.Draws.{ByteStream}
+use Rattle.port_model.specs.Draws.{ByteStream, Draws}
 use Rattle.migration_spec.specs.Guard.{Migration}
 use Rattle.vault_read.specs.OwnFolders.{HasOwnFolders}
 use Rattle.vault_spec.specs.Vault.{Vault}
@@ -79,12 +79,15 @@ IsRootOf moving fault root = root ≡ root_of moving fault
 abbrev pub IsCaused : Moving → View → List ℕ → List ℕ → Outcome → Type 0
 IsCaused moving v source_pass target_pass outcome = Unless outcome (Begins moving.names moving.source moving.target moving.work source_pass target_pass v outcome)
 
--- What it draws and writes. Where it answers that a compared content passes the limit, it does so; and nothing is changed unless all its
--- tests pass, of which none is the answer then.
+-- What it draws and writes. Where it answers that a compared content passes the limit, it does so. That all is done is said only while the
+-- target has the mapped tree of the source. And nothing is changed and no byte drawn unless all its tests pass, of which none is the answer
+-- then.
 pub record IsWritten (moving : Moving) (told told' : Option Told) (stream stream' : Option ByteStream) (v : View) (source_pass target_pass : List ℕ) (outcome : Outcome) : Type 0 where
   pub writes : MayWriteTree outcome moving.names moving.source moving.target moving.work source_pass target_pass stream stream' told told'
   pub too_long : IfErr outcome (IsOfLimit (PassesInTree moving.names moving.source moving.target source_pass target_pass told told'))
   pub tested : ChangesNothing told told' ⊎ (IfErr outcome IsOfPlacing × PassesBegin moving.names moving.source moving.target moving.work source_pass target_pass v)
+  pub journal : BringsJournal moving.names moving.source moving.target moving.work source_pass target_pass told told' v
+  pub undrawn : Draws stream stream' [] ⊎ (IfErr outcome IsOfPlacing × PassesBegin moving.names moving.source moving.target moving.work source_pass target_pass v)
 
 abbrev pub ComesTo : Moving → (Outcome → Type 0) → Option Told → Option Told → Option ByteStream → Option ByteStream → View → Type 0
 ComesTo moving IsAnswered told told' stream stream' v = Comes moving.passes (IsCaused moving v) (IsWritten moving told told' stream stream' v) IsAnswered v

@@ -1,5 +1,5 @@
 -- `resume`: going on with the migration that the journal in a work folder tells of.
-use Rattle.std.specs.Prelude.{ℕ, List, Option, Some, None, IfErr, IsTrue, ◌≡◌, ◌⊎◌}
+use Rattle.std.specs.Prelude.{ℕ, List, [], Option, Some, None, IfErr, IsTrue, ◌≡◌, ◌⊎◌}
 use Rattle.std.specs.Io.KnownBytes.{Keeps}
 use Rattle.folder_spec.specs.Event.{Told}
 use Rattle.folder_spec.specs.Path.{Path}
@@ -9,7 +9,7 @@ use Rattle.migrate_core.specs.Causes.{IsOfPlacing, PassesResume, Unless}
 use Rattle.migrate_core.specs.Causes as causes
 use Rattle.migrate_core.specs.Completing.{CanResume}
 use Rattle.migrate_core.specs.Drawing.{Drew}
-use Rattle.migrate_core.specs.Lasting.{Clears, Finishes, KeepsEachJournal}
+use Rattle.migrate_core.specs.Lasting.{Clears, Finishes, HaveToldTrees, KeepsEachJournal}
 use Rattle.migrate_core.specs.Limits.{IsOfLimit, PassesAsTold}
 use Rattle.migrate_core.specs.Moved.{MovesTold}
 use Rattle.migrate_core.specs.Moving.{MovesOnly}
@@ -20,7 +20,7 @@ use Rattle.migrate_core.specs.declared.placing.Done as moved
 use Rattle.move_journal.specs.Journal.{IsJournal}
 use Rattle.move_journal.specs.declared.journal.Journal.{Journal}
 use Rattle.move_journal.specs.Reading.{StandsIn}
-use Rattle.port_model.specs.Draws.{ByteStream}
+use Rattle.port_model.specs.Draws.{ByteStream, Draws}
 use Rattle.migration_spec.specs.Guard.{Migration}
 use Rattle.migration_sides.specs.Lasting.{Lasts}
 use Rattle.migration_sides.specs.Unchanged.{ChangesNothing}
@@ -50,6 +50,14 @@ pub record HasResumed (resuming : Resuming) (done : moved.Done) (told told' : Op
   pub finishes : (g : Migration) → IfSeen told (λ v. IsResumedFor g resuming v → Finishes g told told')
   pub clears : Clears resuming.work told told'
 
+-- Of the vaults that the journal tells, opened in the first view by the passphrases in the two files, the target has the mapped tree of the
+-- source.
+pub record HaveTrees (resuming : Resuming) (v : View) (journal : Journal) (w : View) : Type 0 where
+  pub source_pass : List ℕ
+  pub target_pass : List ℕ
+  pub phrases : ArePhrases resuming.passes source_pass target_pass v
+  pub trees : HaveToldTrees source_pass target_pass v journal w
+
 -- the root of a vault that the journal tells
 abbrev pub root_in : Journal → Side → Path
 root_in journal Source = journal.source
@@ -73,12 +81,13 @@ unopened fault = None
 abbrev pub IsCaused : Resuming → View → List ℕ → List ℕ → Outcome → Type 0
 IsCaused resuming v source_pass target_pass outcome = Unless outcome (causes.Resumes resuming.work source_pass target_pass v outcome)
 
--- What it draws and writes. Where it answers that a compared content passes the limit, it does so; and nothing is changed unless all its
--- tests pass, of which none is the answer then.
+-- What it draws and writes. Where it answers that a compared content passes the limit, it does so; and nothing is changed and no byte drawn
+-- unless all its tests pass, of which none is the answer then.
 pub record IsWritten (resuming : Resuming) (told told' : Option Told) (stream stream' : Option ByteStream) (v : View) (source_pass target_pass : List ℕ) (outcome : Outcome) : Type 0 where
   pub writes : MayWriteTold outcome resuming.work source_pass target_pass stream stream' told told' v
   pub too_long : IfErr outcome (IsOfLimit (PassesAsTold resuming.work source_pass target_pass told told' v))
   pub tested : ChangesNothing told told' ⊎ (IfErr outcome IsOfPlacing × PassesResume resuming.work source_pass target_pass v)
+  pub undrawn : Draws stream stream' [] ⊎ (IfErr outcome IsOfPlacing × PassesResume resuming.work source_pass target_pass v)
 
 abbrev pub ComesTo : Resuming → (Outcome → Type 0) → Option Told → Option Told → Option ByteStream → Option ByteStream → View → Type 0
 ComesTo resuming IsAnswered told told' stream stream' v = Comes resuming.passes (IsCaused resuming v) (IsWritten resuming told told' stream stream' v) IsAnswered v
@@ -91,7 +100,7 @@ MayCome resuming answer told told' stream stream' v =
 -- Whatever the answer is, nothing is lost; where a journal stands in the work folder, all but that folder and the target stays as it was,
 -- and nothing of the target is removed or replaced. At 0 the tree is moved. Where no test can fail and no content is damaged, it comes to
 -- that. Zeros are the answer only where sixteen were drawn last; where a passphrase doesn't open its vault, nothing is changed; and a journal
--- that stood stands, or one that says that all is done.
+-- that stood stands, or one that says that all is done, which comes only while the target has the mapped tree of the source.
 pub record Resumes (resuming : Resuming) (answer : Answer) (told told' : Option Told) (taken taken' : Option (List ℕ)) (stream stream' : Option ByteStream) : Type 0 where
   pub own : IsTrue (is_of_told_migration answer)
   pub drew : Drew (answer ≡ ZeroRandom) stream stream'
@@ -99,7 +108,7 @@ pub record Resumes (resuming : Resuming) (answer : Answer) (told told' : Option 
   pub keeps : (g : Migration) → IfSeen told (λ v. IsResumedFor g resuming v → KeepsAll g told told')
   pub moves : (v : View) (journal : Journal) → IsSeen told v → IsJournal journal → StandsIn resuming.work journal v → MovesOnly resuming.work journal.target told told'
   pub unread : IfSeen told (λ v. AtWrongPass (ChangesNothing told told') answer)
-  pub journal : KeepsEachJournal resuming.work told told'
+  pub journal : KeepsEachJournal (HaveTrees resuming) resuming.work told told'
   pub completes : (g : Migration) → IfSeen told (λ v. IsResumedFor g resuming v → CanResume g v → Completes answer)
   pub prints : PrintsDone done_text (λ done. HasResumed resuming done told told') answer taken taken'
 

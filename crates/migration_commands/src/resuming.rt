@@ -16,7 +16,7 @@ ghost use Rattle.open_for_reading.specs.World.{World};
 ghost use Rattle.migration_answers.specs.Faults.{of_move};
 ghost use Rattle.migration_answers.specs.Stops.{is_of_told_stop};
 ghost use Rattle.migration_commands.specs.Moving.{Completes, KeepsAll};
-ghost use Rattle.migration_commands.specs.Resume.{ComesTo, HasResumed, IsResumedFor, MayCome, ResumesTree, root_by, unopened};
+ghost use Rattle.migration_commands.specs.Resume.{ComesTo, HasResumed, HaveTrees, IsResumedFor, MayCome, ResumesTree, root_by, unopened};
 ghost use Rattle.command_words.specs.declared.commands.Command.TheVariants.{Resume};
 
 use crate::moving::{learn, print_done, root_by};
@@ -65,7 +65,7 @@ fn go_on<F: Folder, R: Randoms>(
     ensures stopped { IfErr result (λ answer. IfSeen (F.told folder.old) (λ v. MayCome resuming.now answer (F.told folder.old) (F.told folder.new) (R.left random.old) (R.left random.new) v)) }
     ensures keeps { (g : Migration) → IfSeen (F.told folder.old) (λ v. IsResumedFor g resuming.now v → KeepsAll g (F.told folder.old) (F.told folder.new)) }
     ensures moves { (v : View) (journal : Journal) → IsSeen (F.told folder.old) v → IsJournal journal → StandsIn resuming.now.work journal v → MovesOnly resuming.now.work journal.target (F.told folder.old) (F.told folder.new) }
-    ensures journal { KeepsEachJournal resuming.now.work (F.told folder.old) (F.told folder.new) }
+    ensures journal { KeepsEachJournal (HaveTrees resuming.now) resuming.now.work (F.told folder.old) (F.told folder.new) }
     ensures completes { IfErr result (λ answer. (g : Migration) → IfSeen (F.told folder.old) (λ v. IsResumedFor g resuming.now v → CanResume g v → Completes answer)) }
     ensures own { IfErr result (λ answer. IsTrue (is_of_told_stop answer)) }
     ensures failed { result ≡ Err Answer.FolderFault → CountRose (F.faults folder.old) (F.faults folder.new) }

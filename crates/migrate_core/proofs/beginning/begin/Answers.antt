@@ -20,7 +20,7 @@ use Rattle.migrate_core.proofs.Limits.{if_taken, in_tree_before, limit_more, non
 use Rattle.migrate_core.specs.Limits.{PassesInTree}
 use Rattle.migrate_core.proofs.Sharing.{in_tree_since}
 use Rattle.migrate_core.specs.Sharing.{SharesInTree}
-use Rattle.migrate_core.proofs.Drawing.{drew_refused}
+use Rattle.migrate_core.proofs.Drawing.{drew_refused, undrawn_on}
 use Rattle.migrate_core.proofs.beginning.begin.Goals as goal
 use Rattle.migration_spec.proofs.Settling.{settle_fell, settle_seen, settle_seen_back, still_guarded}
 use Rattle.migration_sides.proofs.Chains.{fault_as, refused_as}
@@ -30,8 +30,11 @@ use Rattle.migration_spec.specs.Guard.{Guarded}
 use Rattle.migrate_core.proofs.Lastings.{on_ok_more, settle_ends}
 use Rattle.migrate_core.specs.Lasting.{Finishes, FinishesSettled}
 use Rattle.migrate_core.specs.Sides.{IsAsked}
+use Rattle.folder_spec.specs.View.{View}
 use Rattle.folder_spec.specs.Seen.{IfSeen}
 use Rattle.migration_spec.specs.Guard.{AreOpenedBy, Migration}
+use Rattle.migrate_core.proofs.Bringing.{brought_since, unbrought}
+use Rattle.migrate_core.proofs.Lastings.{texts_same, texts_settled}
 
 pub returns-in_err-test_apart-clause-guard : goal.returns-in_err-test_apart-clause-guard
 returns-in_err-test_apart-clause-guard g c = λ migration asked opened. still_guarded (Guarded migration) migration (g.F.Folder.told c.args.folder.now) (g.F.Folder.told c.args.folder.now) (λ s is. is) refl
@@ -237,3 +240,36 @@ returns-clause-finishes g c =
     (λ ends migration asked opened.
     settle_ends law.settles law.alone migration t0 t1 t2 c.in_ok-settle.field-0 (g.met.F.Folder.sound c.args.folder.now) (g.met.F.Folder.sound c.settle.new.self) c.in_ok-settle.ensures.changes
     (ends migration asked (λ v seen. opened v (settle_seen_back t0 t1 (Ok c.in_ok-settle.field-0) c.in_ok-settle.ensures.changes v seen)))) c.begin_settled.ensures.finishes
+
+pub returns-in_err-test_apart-clause-undrawn : goal.returns-in_err-test_apart-clause-undrawn
+returns-in_err-test_apart-clause-undrawn g c = inl (c.draws_compose.ensures.none (g.R.Randoms.left c.args.random.now))
+
+pub returns-in_err-settle-clause-undrawn : goal.returns-in_err-settle-clause-undrawn
+returns-in_err-settle-clause-undrawn g c = inl (c.draws_compose.ensures.none (g.R.Randoms.left c.args.random.now))
+
+pub returns-clause-undrawn : goal.returns-clause-undrawn
+returns-clause-undrawn g c =
+    let t0 = g.F.Folder.told c.args.folder.now in
+    let t1 = g.F.Folder.told c.settle.new.self in
+    let Passed : View → Type 0 = λ v. IfErr c.begin_settled.result IsOfPlacing × PassesBegin c.args.names c.args.source.now c.args.target.now c.args.work.now c.args.source_pass.now c.args.target_pass.now v in
+    undrawn_on Passed Passed t0 t1 (settle_seen t0 t1 c.in_ok-settle.field-0 c.in_ok-settle.ensures.changes) (λ v is passed. passed) c.begin_settled.ensures.undrawn
+
+pub returns-in_err-test_apart-clause-journal : goal.returns-in_err-test_apart-clause-journal
+returns-in_err-test_apart-clause-journal g c v is =
+    let told = g.F.Folder.told c.args.folder.now in
+    unbrought c.args.names c.args.source.now c.args.target.now c.args.work.now c.args.source_pass.now c.args.target_pass.now told told v (λ j. texts_same (λ x. ⊥) c.args.work.now j told told refl)
+
+pub returns-in_err-settle-clause-journal : goal.returns-in_err-settle-clause-journal
+returns-in_err-settle-clause-journal g c v is =
+    let told = g.F.Folder.told c.args.folder.now in
+    let here = g.F.Folder.told c.settle.new.self in
+    unbrought c.args.names c.args.source.now c.args.target.now c.args.work.now c.args.source_pass.now c.args.target_pass.now told here v (λ j. texts_settled (λ x. ⊥) c.args.work.now j told here c.settle.result c.settle.ensures.changes)
+
+pub returns-clause-journal : goal.returns-clause-journal
+returns-clause-journal g c v is =
+    let told = g.F.Folder.told c.args.folder.now in
+    let here = g.F.Folder.told c.settle.new.self in
+    let after = g.F.Folder.told c.begin_settled.new.folder in
+    brought_since c.args.names c.args.source.now c.args.target.now c.args.work.now c.args.source_pass.now c.args.target_pass.now told here after v
+    (λ j. texts_settled (λ x. ⊥) c.args.work.now j told here c.settle.result c.settle.ensures.changes)
+    (c.begin_settled.ensures.journal v (settle_seen told here c.in_ok-settle.field-0 c.in_ok-settle.ensures.changes v is))

@@ -1,5 +1,6 @@
 use Rattle.std.proofs.Common.{◌≡◌, ◌∙◌, sym, subst, subst₂, Err, IfErr, IfOk, Ok, inl}
 use Rattle.folder_spec.specs.Region.{apart_from_both}
+use Rattle.folder_spec.specs.View.{View}
 use Rattle.folder_spec.specs.Seen.{IsSeen, seen}
 use Rattle.folder_model.specs.Text.{IsParsed}
 use Rattle.migration_spec.specs.Alone.{Unbegun}
@@ -28,8 +29,10 @@ use Rattle.migrate_core.proofs.Limits.{limit_in_tree, none_compared, none_taken,
 use Rattle.migrate_core.specs.Copying.{StayGood}
 use Rattle.migrate_core.specs.Limits.{EndsBy, IsOfLimit, PassesInTree}
 use Rattle.migrate_core.specs.Sharing.{IsOfTaken, SharesInTree, SharesWhereTidy}
-use Rattle.migrate_core.proofs.Drawing.{drew_refused}
+use Rattle.migrate_core.proofs.Drawing.{drew_refused, undrawn_on}
+use Rattle.migrate_core.proofs.beginning.begin_settled.Given.{Over}
 use Rattle.migrate_core.proofs.beginning.begin_settled.Goals as goal
+use Rattle.migrate_core.proofs.beginning.begin_settled.Goals.{After-begin_with}
 use Rattle.migration_sides.proofs.Chains.{fault_as, refused_as, then_passes}
 use Rattle.migrate_core.specs.declared.fault.MoveFault.TheVariants.{Failed, NoMemory}
 use Rattle.migrate_core.proofs.Tested.{step_tested, work_tested}
@@ -39,6 +42,9 @@ use Rattle.migrate_core.specs.Leading.{Leads}
 use Rattle.folder_spec.specs.Seen.{IfSeen}
 use Rattle.migration_spec.specs.Alone.{Finished}
 use Rattle.migration_spec.specs.Guard.{AreOpenedBy, Migration}
+use Rattle.migrate_core.proofs.Bringing.{brought_by_pass, unbrought}
+use Rattle.migrate_core.proofs.Lastings.{texts_same}
+use Rattle.migrate_core.specs.Lasting.{BringsBetween}
 
 pub returns-in_err-look-clause-guard : goal.returns-in_err-look-clause-guard
 returns-in_err-look-clause-guard g c migration asked opened = still_settled migration _ _ c.look.ensures.told
@@ -173,28 +179,42 @@ returns-in_err-look-clause-tested g c = inl c.look.ensures.told
 pub returns-in_err-sides-clause-tested : goal.returns-in_err-sides-clause-tested
 returns-in_err-sides-clause-tested g c = inl (c.load_both.ensures.told ∙ c.look.ensures.told)
 
+-- the tests pass with those behind
+module _ (g : Over) (c : After-begin_with g) where
+  abbrev PassedBehind : View → Type 0
+  PassedBehind v = IfErr c.begin_with.result IsOfPlacing × TestsToBegin c.in_ok-sides.sides.names c.in_ok-sides.sides.source c.in_ok-sides.sides.target v all_pass (Ok tt)
+
+  abbrev Passed : View → Type 0
+  Passed v = IfErr c.begin_with.result IsOfPlacing × PassesBegin c.args.names c.args.source.now c.args.target.now c.args.work.now c.args.source_pass.now c.args.target_pass.now v
+
+  passing : (v : View) → IsSeen (g.F.Folder.told c.args.folder.now) v → PassedBehind v → Passed v
+  passing v seen passed =
+      let from = c.args.source.now in
+      let to = c.args.target.now in
+      let work = c.args.work.now in
+      let pass = c.args.source_pass.now in
+      let pass' = c.args.target_pass.now in
+      let sides = c.in_ok-sides.sides in
+      let loads = c.in_ok-sides.ensures in
+      let looked = subst (λ t. IsSeen t v) (sym c.look.ensures.told) seen in (
+        passed.0,
+        record {
+          apart = separate_pass from to work c.requires.apart;
+          folder = c.in_ok-look.ensures.answer v seen;
+          vaults = both_open of_step v from to pass pass' (λ source target. TestsToBegin c.args.names source target v all_pass) sides.source sides.target loads.source loads.target (loads.opens_source v looked) (loads.opens_target v looked)
+              (subst (λ n. TestsToBegin n sides.source sides.target v all_pass (Ok tt)) loads.names passed.1);
+        },
+      )
+
 pub returns-clause-tested : goal.returns-clause-tested
 returns-clause-tested g c =
-    let from = c.args.source.now in
-    let to = c.args.target.now in
-    let work = c.args.work.now in
-    let pass = c.args.source_pass.now in
-    let pass' = c.args.target_pass.now in
-    let sides = c.in_ok-sides.sides in
-    let loads = c.in_ok-sides.ensures in
-    tested_on (g.F.Folder.told c.args.folder.now) (g.F.Folder.told c.load_both.new.folder) (g.F.Folder.told c.begin_with.new.folder)
-    (λ v. IfErr c.begin_with.result IsOfPlacing × TestsToBegin sides.names sides.source sides.target v all_pass (Ok tt)) c.begin_with.ensures.tested
-    (λ v. IfErr c.begin_with.result IsOfPlacing × PassesBegin c.args.names from to work pass pass' v) (c.load_both.ensures.told ∙ c.look.ensures.told)
-    (λ v seen passed.
-    let looked = subst (λ t. IsSeen t v) (sym c.look.ensures.told) seen in (
-      passed.0,
-      record {
-        apart = separate_pass from to work c.requires.apart;
-        folder = c.in_ok-look.ensures.answer v seen;
-        vaults = both_open of_step v from to pass pass' (λ source target. TestsToBegin c.args.names source target v all_pass) sides.source sides.target loads.source loads.target (loads.opens_source v looked) (loads.opens_target v looked)
-            (subst (λ n. TestsToBegin n sides.source sides.target v all_pass (Ok tt)) loads.names passed.1);
-      },
-    ))
+    let after = (goal.at.returns-clause-tested g c).After-begin_with in
+    tested_on (g.F.Folder.told c.args.folder.now) (g.F.Folder.told c.load_both.new.folder) (g.F.Folder.told c.begin_with.new.folder) (PassedBehind g after) c.begin_with.ensures.tested (Passed g after) (c.load_both.ensures.told ∙ c.look.ensures.told) (passing g after)
+
+pub returns-clause-undrawn : goal.returns-clause-undrawn
+returns-clause-undrawn g c =
+    let after = (goal.at.returns-clause-undrawn g c).After-begin_with in
+    undrawn_on (PassedBehind g after) (Passed g after) (g.F.Folder.told c.args.folder.now) (g.F.Folder.told c.load_both.new.folder) (λ v is. subst (λ t. IsSeen t v) (sym (c.load_both.ensures.told ∙ c.look.ensures.told)) is) (passing g after) c.begin_with.ensures.undrawn
 
 pub returns-in_err-look-clause-too_long : goal.returns-in_err-look-clause-too_long
 returns-in_err-look-clause-too_long g c =
@@ -281,3 +301,32 @@ returns-clause-finishes g c =
       found.alone,
       subst (λ t. Leads migration Unbegun Finished t t3) same (leads_of migration Unbegun Finished t2 t3 c.begin_with.result done is_done (c.begin_with.ensures.guard migration found.sides)),
     )))
+
+pub returns-in_err-look-clause-undrawn : goal.returns-in_err-look-clause-undrawn
+returns-in_err-look-clause-undrawn g c = inl (c.draws_compose.ensures.none (g.R.Randoms.left c.args.random.now))
+
+pub returns-in_err-sides-clause-undrawn : goal.returns-in_err-sides-clause-undrawn
+returns-in_err-sides-clause-undrawn g c = inl (c.draws_compose.ensures.none (g.R.Randoms.left c.args.random.now))
+
+pub returns-in_err-look-clause-journal : goal.returns-in_err-look-clause-journal
+returns-in_err-look-clause-journal g c v is =
+    let told = g.F.Folder.told c.args.folder.now in
+    let here = g.F.Folder.told c.look.new.folder in
+    unbrought c.args.names c.args.source.now c.args.target.now c.args.work.now c.args.source_pass.now c.args.target_pass.now told here v (λ j. texts_same (λ x. ⊥) c.args.work.now j told here c.look.ensures.told)
+
+pub returns-in_err-sides-clause-journal : goal.returns-in_err-sides-clause-journal
+returns-in_err-sides-clause-journal g c v is =
+    let told = g.F.Folder.told c.args.folder.now in
+    let here = g.F.Folder.told c.load_both.new.folder in
+    unbrought c.args.names c.args.source.now c.args.target.now c.args.work.now c.args.source_pass.now c.args.target_pass.now told here v (λ j. texts_same (λ x. ⊥) c.args.work.now j told here (c.load_both.ensures.told ∙ c.look.ensures.told))
+
+pub returns-clause-journal : goal.returns-clause-journal
+returns-clause-journal g c v is =
+    let sides = c.in_ok-sides.sides in
+    let loads = c.in_ok-sides.ensures in
+    let once = subst (λ t. IsSeen t v) (sym c.look.ensures.told) is in
+    let told = g.F.Folder.told c.args.folder.now in
+    let after = g.F.Folder.told c.begin_with.new.folder in
+    brought_by_pass c.args.names c.args.source.now c.args.target.now c.args.work.now c.args.source_pass.now c.args.target_pass.now sides.names sides.source sides.target told after v
+    loads.names loads.source loads.target (loads.opens_source v once) (loads.opens_target v once)
+    (subst (λ t. BringsBetween sides.names sides.source sides.target c.args.work.now t after) (c.load_both.ensures.told ∙ c.look.ensures.told) c.begin_with.ensures.journal)

@@ -1,4 +1,4 @@
-use Rattle.std.proofs.Common.{◌≡◌, ◌∙◌, [], sym, ap, subst, arith, Err, List, Ok, inl, inr, refl}
+use Rattle.std.proofs.Common.{◌≡◌, ◌∙◌, [], sym, ap, subst, arith, Err, IfErr, List, Ok, inl, inr, refl}
 use Rattle.folder_spec.specs.Seen.{IfSeen, IsSeen}
 use Rattle.migrate_core.proofs.Endings.{if_ok_more, placed_of}
 use Rattle.migrate_core.specs.Moved.{lacking}
@@ -8,12 +8,12 @@ use Rattle.migrate_core.specs.Leading.{Goes}
 use Rattle.migrate_core.specs.Moving.{MovesOnly}
 use Rattle.migration_sides.proofs.Told.{walks_passes, walks_refused}
 use Rattle.migration_sides.specs.Sides.{IsWalked}
-use Rattle.migration_sides.specs.Tests.{Then, own}
+use Rattle.migration_sides.specs.Tests.{Then, all_pass, own}
 use Rattle.migrate_core.proofs.Blaming.{step_begins}
 use Rattle.migrate_core.proofs.Leadings.{refused_nowhere}
 use Rattle.migrate_core.proofs.Movings.{moves_nowhere}
 use Rattle.migrate_core.proofs.Causing.{mapped_pass, mapped_refused}
-use Rattle.migrate_core.specs.Causes.{Answer, BeginsWith, Moves, TestsEmpty, TestsMapped, Unless}
+use Rattle.migrate_core.specs.Causes.{Answer, BeginsWith, IsOfPlacing, Moves, TestsEmpty, TestsMapped, TestsToBegin, Unless}
 use Rattle.migrate_core.specs.Faults.{of_step}
 use Rattle.work_folder.specs.Entering.{EntersAs}
 use Rattle.migrate_core.specs.declared.placing.Done.{Done}
@@ -28,10 +28,15 @@ use Rattle.migrate_core.specs.Limits.{EndsBy}
 use Rattle.migrate_core.proofs.Sharing.{source_shares}
 use Rattle.migrate_core.specs.Sharing.{IsFilled, SharesFrom, SharesWhereTidy}
 use Rattle.migrate_core.proofs.Drawing.{drew_refused}
+use Rattle.migrate_core.proofs.beginning.begin_with.Given.{Over}
 use Rattle.migrate_core.proofs.beginning.begin_with.Goals as goal
+use Rattle.migrate_core.proofs.beginning.begin_with.Goals.{After-move_all}
 use Rattle.migration_sides.proofs.Chains.{fault_as, own_passes, own_refused, passed_is, refused_as}
 use Rattle.migrate_core.specs.declared.fault.MoveFault.TheVariants.{Failed, NoMemory}
 use Rattle.migrate_core.proofs.Tested.{moves_places, step_tested}
+use Rattle.migrate_core.proofs.Bringing.{unbrought_between}
+use Rattle.migrate_core.proofs.Lastings.{texts_same}
+use Rattle.migrate_core.specs.Lasting.{BringsBetween}
 
 pub returns-in_err-plans-clause-guard : goal.returns-in_err-plans-clause-guard
 returns-in_err-plans-clause-guard g c m sides = refused_nowhere _ m Unbegun Finished _ _ c.from_residual.result c.from_residual.ensures.1 c.walk_both.ensures.told
@@ -175,22 +180,30 @@ returns-in_err-test_empty-clause-tested g c = inl c.walk_both.ensures.told
 pub returns-in_err-mapped-clause-tested : goal.returns-in_err-mapped-clause-tested
 returns-in_err-mapped-clause-tested g c = inl c.walk_both.ensures.told
 
-pub returns-clause-tested : goal.returns-clause-tested
-returns-clause-tested g c = inr (λ v seen.
-    let plans = c.in_ok-plans.plans in
-    let moved = c.move_all.ensures.cause v (subst (λ t. IsSeen t v) (sym c.walk_both.ensures.told) seen) in
-    let empty : TestsEmpty plans.target.items (Ok tt) = subst (λ items. TestsEmpty items (Ok tt)) c.as_slice.ensures (passed_is Failed NoMemory tt (TestsEmpty c.as_slice.result.now (Ok tt)) c.in_ok-test_empty.ensures.cause) in (
-      moves_places (EntersAs v c.args.work.now) c.args.sides.now.source c.args.sides.now.target v c.in_ok-mapped.mapped.items c.move_all.result moved,
-      (
-        Ok plans.source.items,
-        c.in_ok-plans.ensures.passed_source v seen,
+-- all tests pass where it comes to the end
+module _ (g : Over) (c : After-move_all g) where
+  all_passed : IfSeen (g.F.Folder.told c.args.folder.now) (λ v. IfErr c.move_all.result IsOfPlacing × TestsToBegin c.args.sides.now.names c.args.sides.now.source c.args.sides.now.target v all_pass (Ok tt))
+  all_passed v seen =
+      let plans = c.in_ok-plans.plans in
+      let moved = c.move_all.ensures.cause v (subst (λ t. IsSeen t v) (sym c.walk_both.ensures.told) seen) in
+      let empty : TestsEmpty plans.target.items (Ok tt) = subst (λ items. TestsEmpty items (Ok tt)) c.as_slice.ensures (passed_is Failed NoMemory tt (TestsEmpty c.as_slice.result.now (Ok tt)) c.in_ok-test_empty.ensures.cause) in (
+        moves_places (EntersAs v c.args.work.now) c.args.sides.now.source c.args.sides.now.target v c.in_ok-mapped.mapped.items c.move_all.result moved,
         (
-          Ok plans.target.items,
-          c.in_ok-plans.ensures.passed_target v seen,
-          (Ok tt, empty, (Ok tt, c.in_ok-mapped.ensures.passed, (Ok c.in_ok-mapped.mapped, c.in_ok-mapped.ensures.maps, refl))),
+          Ok plans.source.items,
+          c.in_ok-plans.ensures.passed_source v seen,
+          (
+            Ok plans.target.items,
+            c.in_ok-plans.ensures.passed_target v seen,
+            (Ok tt, empty, (Ok tt, c.in_ok-mapped.ensures.passed, (Ok c.in_ok-mapped.mapped, c.in_ok-mapped.ensures.maps, refl))),
+          ),
         ),
-      ),
-    ))
+      )
+
+pub returns-clause-tested : goal.returns-clause-tested
+returns-clause-tested g c = inr (all_passed g (goal.at.returns-clause-tested g c).After-move_all)
+
+pub returns-clause-undrawn : goal.returns-clause-undrawn
+returns-clause-undrawn g c = inr (all_passed g (goal.at.returns-clause-undrawn g c).After-move_all)
 
 pub move_all-requires-clause-copying : goal.move_all-requires-clause-copying
 move_all-requires-clause-copying g c =
@@ -250,3 +263,33 @@ returns-in_err-test_empty-clause-drew g c = drew_refused c.draws_compose.ensures
 
 pub returns-in_err-mapped-clause-drew : goal.returns-in_err-mapped-clause-drew
 returns-in_err-mapped-clause-drew g c = drew_refused c.draws_compose.ensures.none (g.R.Randoms.left c.args.random.now) c.from_residual-in_err-mapped.result _ c.from_residual-in_err-mapped.ensures.1 c.in_err-mapped.ensures.tested
+
+pub returns-in_err-plans-clause-undrawn : goal.returns-in_err-plans-clause-undrawn
+returns-in_err-plans-clause-undrawn g c = inl (c.draws_compose.ensures.none (g.R.Randoms.left c.args.random.now))
+
+pub returns-in_err-test_empty-clause-undrawn : goal.returns-in_err-test_empty-clause-undrawn
+returns-in_err-test_empty-clause-undrawn g c = inl (c.draws_compose.ensures.none (g.R.Randoms.left c.args.random.now))
+
+pub returns-in_err-mapped-clause-undrawn : goal.returns-in_err-mapped-clause-undrawn
+returns-in_err-mapped-clause-undrawn g c = inl (c.draws_compose.ensures.none (g.R.Randoms.left c.args.random.now))
+
+pub returns-in_err-plans-clause-journal : goal.returns-in_err-plans-clause-journal
+returns-in_err-plans-clause-journal g c =
+    let told = g.F.Folder.told c.args.folder.now in
+    let here = g.F.Folder.told c.walk_both.new.folder in
+    unbrought_between c.args.sides.now.names c.args.sides.now.source c.args.sides.now.target c.args.work.now told here (λ j. texts_same (λ x. ⊥) c.args.work.now j told here c.walk_both.ensures.told)
+
+pub returns-in_err-test_empty-clause-journal : goal.returns-in_err-test_empty-clause-journal
+returns-in_err-test_empty-clause-journal g c =
+    let told = g.F.Folder.told c.args.folder.now in
+    let here = g.F.Folder.told c.walk_both.new.folder in
+    unbrought_between c.args.sides.now.names c.args.sides.now.source c.args.sides.now.target c.args.work.now told here (λ j. texts_same (λ x. ⊥) c.args.work.now j told here c.walk_both.ensures.told)
+
+pub returns-in_err-mapped-clause-journal : goal.returns-in_err-mapped-clause-journal
+returns-in_err-mapped-clause-journal g c =
+    let told = g.F.Folder.told c.args.folder.now in
+    let here = g.F.Folder.told c.walk_both.new.folder in
+    unbrought_between c.args.sides.now.names c.args.sides.now.source c.args.sides.now.target c.args.work.now told here (λ j. texts_same (λ x. ⊥) c.args.work.now j told here c.walk_both.ensures.told)
+
+pub returns-clause-journal : goal.returns-clause-journal
+returns-clause-journal g c = subst (λ t. BringsBetween c.args.sides.now.names c.args.sides.now.source c.args.sides.now.target c.args.work.now t (g.F.Folder.told c.move_all.new.folder)) c.walk_both.ensures.told c.move_all.ensures.journal

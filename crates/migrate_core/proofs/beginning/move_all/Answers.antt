@@ -15,7 +15,7 @@ use Rattle.migrate_core.specs.Leading.{LeadsTold, LeadsEach}
 use Rattle.migrate_core.specs.Moving.{MovesOnly}
 use Rattle.migrate_core.specs.Sides.{new_journal, AreItemsToMove}
 use Rattle.migrate_core.proofs.Endings.{if_ok_more}
-use Rattle.migrate_core.specs.Moved.{IsTidyWork, Moved, StaysTidyWork, lacking, done_of}
+use Rattle.migrate_core.specs.Moved.{HaveMappedTree, IsTidyWork, Moved, StaysTidyWork, lacking, done_of}
 use Rattle.migrate_core.proofs.Causing.{moves_pass, never_more}
 use Rattle.migrate_core.specs.Causes.{IsOfMoving, Moves, Unless, StopsAt}
 use Rattle.migrate_core.specs.Copying.{BothHaveOwnFolders}
@@ -38,6 +38,8 @@ use Rattle.migration_sides.proofs.Chains.{refused_as}
 use Rattle.migration_sides.proofs.Told.{folder_unless, work_refused}
 use Rattle.migrate_core.proofs.Tested.{folder_tested, work_tested}
 use Rattle.migrate_core.proofs.Readied.{begun_readied, lacked_kept, readied_good, readied_stops, source_is, target_is, IsReadied}
+use Rattle.migrate_core.proofs.Bringing.{brings_done, brings_then, brings_written, texts_entered, unbrought_between}
+use Rattle.migrate_core.specs.Lasting.{BringsTexts, KeepsTexts}
 
 -- once the new journal is written, or that has failed
 module _ (g : Over) (c : After-write g) where
@@ -352,3 +354,51 @@ returns-in_err-journal-clause-drew g c = drew_refused c.draws_compose.ensures.no
 
 pub returns-in_err-write-clause-drew : goal.returns-in_err-write-clause-drew
 returns-in_err-write-clause-drew g c = drew_refused c.draws_compose.ensures.none (g.R.Randoms.left c.args.random.now) c.from_residual-in_err-write.result _ c.from_residual-in_err-write.ensures.1 (folder_tested c.in_err-write.field-0.0).1
+
+pub returns-in_err-entered-clause-journal : goal.returns-in_err-entered-clause-journal
+returns-in_err-entered-clause-journal g c =
+    let told = g.F.Folder.told c.args.folder.now in
+    let here = g.F.Folder.told c.enter.new.folder in
+    unbrought_between c.args.sides.now.names c.args.sides.now.source c.args.sides.now.target c.args.work.now told here (λ j. texts_entered c.args.work.now j told here c.enter.ensures.enters.moments)
+
+pub returns-in_err-journal-clause-journal : goal.returns-in_err-journal-clause-journal
+returns-in_err-journal-clause-journal g c =
+    let told = g.F.Folder.told c.args.folder.now in
+    let here = g.F.Folder.told c.enter.new.folder in
+    unbrought_between c.args.sides.now.names c.args.sides.now.source c.args.sides.now.target c.args.work.now told here (λ j. texts_entered c.args.work.now j told here c.enter.ensures.enters.moments)
+
+pub returns-in_err-write-clause-journal : goal.returns-in_err-write-clause-journal
+returns-in_err-write-clause-journal g c =
+    let rule = c.args.sides.now.names in
+    let from = c.args.sides.now.source in
+    let to = c.args.sides.now.target in
+    let work = c.args.work.now in
+    let items = c.args.items.now.own.items in
+    let told = g.F.Folder.told c.args.folder.now in
+    let here = g.F.Folder.told c.enter.new.folder in
+    let written = g.F.Folder.told c.write.new.folder in
+    let Trees = HaveMappedTree rule from to in (
+      items,
+      subst (λ (j : Journal). BringsTexts Trees work j told written) (is_new g (goal.at.returns-in_err-write-clause-journal g c).After-write)
+          (brings_then Trees work c.in_ok-journal.journal told here written (texts_entered work c.in_ok-journal.journal told here c.enter.ensures.enters.moments) (brings_written Trees work c.in_ok-journal.journal here written c.write.ensures.moments)),
+    )
+
+pub returns-clause-journal : goal.returns-clause-journal
+returns-clause-journal g c =
+    let rule = c.args.sides.now.names in
+    let from = c.args.sides.now.source in
+    let to = c.args.sides.now.target in
+    let work = c.args.work.now in
+    let items = c.args.items.now.own.items in
+    let j = c.in_ok-journal.journal in
+    let told = g.F.Folder.told c.args.folder.now in
+    let here = g.F.Folder.told c.enter.new.folder in
+    let written = g.F.Folder.told c.write.new.folder in
+    let after = g.F.Folder.told c.go_on.new.folder in
+    let Trees = HaveMappedTree rule from to in (
+      items,
+      subst (λ (j : Journal). BringsTexts Trees work j told after) (is_new g (goal.at.returns-clause-journal g c).After-write)
+          (brings_done Trees work j told written after (g.met.F.Folder.sound c.write.new.folder)
+          (brings_then (λ v. ⊥) work j told here written (texts_entered work j told here c.enter.ensures.enters.moments) (brings_written (λ v. ⊥) work j here written c.write.ensures.moments))
+          (subst (λ w. KeepsTexts Trees w j written after) c.in_ok-entered.ensures.path c.go_on.ensures.journal)),
+    )

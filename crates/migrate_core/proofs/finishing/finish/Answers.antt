@@ -2,14 +2,14 @@ use Rattle.std.proofs.Common.{Result, ◌∙◌, Ok, length, sym, ap, subst, Con
 use Rattle.folder_spec.specs.Seen.{IsSeen}
 use Rattle.migration_spec.specs.Alone.{Finished}
 use Rattle.migrate_core.specs.declared.fault.MoveFault.{MoveFault}
-use Rattle.migrate_core.proofs.Endings.{finish_goes, has_moved}
+use Rattle.migrate_core.proofs.Endings.{finish_goes, has_moved, trees_beside}
 use Rattle.migrate_core.proofs.Leadings.{goes_failed, refused_nowhere}
 use Rattle.migrate_core.proofs.Movings.{mapped_walk, moves_nowhere, source_stays, turned_over}
 use Rattle.migrate_core.specs.Leading.{Goes, progress_of}
 use Rattle.migrate_core.specs.Moving.{MovesOnly}
 use Rattle.migrate_core.specs.Sides.{AreItemsToMove, IsMappedWalk}
 use Rattle.migration_sides.specs.Sides.{IsWalked}
-use Rattle.migrate_core.specs.Moved.{StaysTidyWork}
+use Rattle.migrate_core.specs.Moved.{HaveMappedTree, StaysTidyWork}
 use Rattle.migrate_core.proofs.Writings.{only_nowhere}
 use Rattle.migrate_core.specs.Written.{BringsOnlyTo, WritesBeside, done_texts}
 use Rattle.tree_match.specs.Trees.{IsSameOrTooLong, match_of, side_of}
@@ -23,13 +23,15 @@ use Rattle.migrate_core.specs.Limits.{EndsBy}
 use Rattle.migrate_core.proofs.Sharing.{whichever_taken}
 use Rattle.migrate_core.proofs.Writings.{stop_is_test}
 use Rattle.migrate_core.specs.Faults.{IsOfTest}
+use Rattle.migrate_core.proofs.finishing.finish.Given.{Over}
 use Rattle.migrate_core.proofs.finishing.finish.Goals as goal
+use Rattle.migrate_core.proofs.finishing.finish.Goals.{After-say_done}
 use Rattle.migration_sides.proofs.Chains.{fault_as, refused_as}
 use Rattle.migrate_core.proofs.Tested.{step_tested}
 use Rattle.folder_spec.specs.Path.{Path}
 use Rattle.folder_spec.specs.Apart.{AreApart}
-use Rattle.migrate_core.proofs.Lastings.{texts_same}
-use Rattle.migrate_core.specs.Lasting.{ClearsReady, KeepsTexts}
+use Rattle.migrate_core.proofs.Lastings.{texts_more, texts_same}
+use Rattle.migrate_core.specs.Lasting.{ClearsReady, KeepsTexts, StaysBeside}
 
 pub returns-in_err-target-clause-guard : goal.returns-in_err-target-clause-guard
 returns-in_err-target-clause-guard g c m sides tells =
@@ -213,13 +215,32 @@ pub returns-clause-clears : goal.returns-clause-clears
 returns-clause-clears g c = subst (λ t. ClearsReady c.args.work.now t (g.F.Folder.told c.say_done.new.folder)) (c.in_ok-test_same.ensures.told ∙ c.in_ok-target.ensures.told) c.in_ok-say_done.ensures.clears
 
 pub returns-in_err-target-clause-journal : goal.returns-in_err-target-clause-journal
-returns-in_err-target-clause-journal g c = texts_same c.args.work.now c.args.journal (g.F.Folder.told c.args.folder.now) (g.F.Folder.told c.walk_one.new.folder) c.walk_one.ensures.told
+returns-in_err-target-clause-journal g c = texts_same (HaveMappedTree c.args.sides.now.names c.args.sides.now.source c.args.sides.now.target) c.args.work.now c.args.journal (g.F.Folder.told c.args.folder.now) (g.F.Folder.told c.walk_one.new.folder) c.walk_one.ensures.told
 
 pub returns-in_err-test_same-clause-journal : goal.returns-in_err-test_same-clause-journal
-returns-in_err-test_same-clause-journal g c = texts_same c.args.work.now c.args.journal (g.F.Folder.told c.args.folder.now) (g.F.Folder.told c.test_same.new.folder) (c.test_same.ensures.told ∙ c.walk_one.ensures.told)
+returns-in_err-test_same-clause-journal g c = texts_same (HaveMappedTree c.args.sides.now.names c.args.sides.now.source c.args.sides.now.target) c.args.work.now c.args.journal (g.F.Folder.told c.args.folder.now) (g.F.Folder.told c.test_same.new.folder) (c.test_same.ensures.told ∙ c.walk_one.ensures.told)
+
+-- where it is said that all is done, that is so
+module _ (g : Over) (c : After-say_done g) where
+  said : KeepsTexts (HaveMappedTree c.args.sides.now.names c.args.sides.now.source c.args.sides.now.target) c.args.work.now c.args.journal (g.F.Folder.told c.args.folder.now) (g.F.Folder.told c.say_done.new.folder)
+  said =
+      let here = g.F.Folder.told c.test_same.new.folder in
+      let after = g.F.Folder.told c.say_done.new.folder in
+      let from = c.args.sides.now.source in
+      let to = c.args.sides.now.target in
+      let rule = c.args.sides.now.names in
+      let work = c.args.work.now in
+      let same = c.in_ok-test_same.ensures.told ∙ c.in_ok-target.ensures.told in
+      subst (λ t. KeepsTexts (HaveMappedTree rule from to) work c.args.journal t after) same
+      (texts_more (StaysBeside work here) (HaveMappedTree rule from to) work c.args.journal here after
+      (trees_beside c.what_is_held_opens_the_same.ensures.held c.what_is_held_opens_the_same.ensures.same c.mapped_trees_are_held.ensures.both rule from to work c.args.items.now.own.items c.args.items.now.mapped.items c.in_ok-target.target.items here c.requires.apart
+      (subst (λ t. AreItemsToMove rule t from c.args.items.now.own.items c.args.items.now.mapped.items) (sym same) c.requires.walked)
+      (subst (λ t. IsWalked t to c.in_ok-target.target.items) (sym same) c.in_ok-target.ensures.walked)
+      (λ v is. c.in_ok-test_same.ensures.same v (subst (λ t. IsSeen t v) c.in_ok-test_same.ensures.told is)))
+      c.say_done.ensures.journal)
 
 pub returns-in_err-say_done-clause-journal : goal.returns-in_err-say_done-clause-journal
-returns-in_err-say_done-clause-journal g c = subst (λ t. KeepsTexts c.args.work.now c.args.journal t (g.F.Folder.told c.say_done.new.folder)) (c.test_same.ensures.told ∙ c.walk_one.ensures.told) c.say_done.ensures.journal
+returns-in_err-say_done-clause-journal g c = said g (goal.at.returns-in_err-say_done-clause-journal g c).After-say_done
 
 pub returns-clause-journal : goal.returns-clause-journal
-returns-clause-journal g c = subst (λ t. KeepsTexts c.args.work.now c.args.journal t (g.F.Folder.told c.say_done.new.folder)) (c.test_same.ensures.told ∙ c.walk_one.ensures.told) c.say_done.ensures.journal
+returns-clause-journal g c = said g (goal.at.returns-clause-journal g c).After-say_done

@@ -9,7 +9,7 @@ use Rattle.migrate_core.proofs.Movings.{mapped_walk, moves_on, moves_to, moves_w
 use Rattle.migrate_core.proofs.WorkFolders.{beside_staged, journal_stays, placing_has, tidy_placed, work_folder_stays}
 use Rattle.migrate_core.specs.Leading.{Goes, progress_of}
 use Rattle.migrate_core.proofs.Endings.{if_ok_more}
-use Rattle.migrate_core.specs.Moved.{Moved, StaysTidyWork, lacking}
+use Rattle.migrate_core.specs.Moved.{HaveMappedTree, Moved, StaysTidyWork, lacking}
 use Rattle.migrate_core.specs.Moving.{MovesOnly}
 use Rattle.migrate_core.specs.Copying.{CopiesAll, HasCopied}
 use Rattle.migrate_core.specs.Sides.{AllowsEach, IsMappedWalk, StandAll}
@@ -226,7 +226,7 @@ pub returns-in_err-placed-clause-journal : goal.returns-in_err-placed-clause-jou
 returns-in_err-placed-clause-journal g c =
     let work = c.args.work.now in
     let root = c.args.sides.now.target.root in
-    texts_by_region work c.args.journal (is_apart work root) (λ s0 s e. OnlyBrings work root s e.call) (g.F.Folder.told c.args.folder.now) (g.F.Folder.told c.place_missing.new.folder) (placing_has work root c.requires.apart.target).journal c.place_missing.ensures.moves
+    texts_by_region (HaveMappedTree c.args.sides.now.names c.args.sides.now.source c.args.sides.now.target) work c.args.journal (is_apart work root) (λ s0 s e. OnlyBrings work root s e.call) (g.F.Folder.told c.args.folder.now) (g.F.Folder.told c.place_missing.new.folder) (placing_has work root c.requires.apart.target).journal c.place_missing.ensures.moves
 
 pub returns-clause-journal : goal.returns-clause-journal
 returns-clause-journal g c =
@@ -235,9 +235,9 @@ returns-clause-journal g c =
     let told = g.F.Folder.told c.args.folder.now in
     let here = g.F.Folder.told c.place_missing.new.folder in
     let after = g.F.Folder.told c.finish.new.folder in
-    keeps_then work c.args.journal told here after (g.met.F.Folder.sound c.place_missing.new.folder)
-    (texts_by_region work c.args.journal (is_apart work root) (λ s0 s e. OnlyBrings work root s e.call) told here (placing_has work root c.requires.apart.target).journal c.place_missing.ensures.moves)
-    (subst (λ w. KeepsTexts w c.args.journal here after) c.at.ensures c.finish.ensures.journal)
+    keeps_then (HaveMappedTree c.args.sides.now.names c.args.sides.now.source c.args.sides.now.target) work c.args.journal told here after
+    (texts_by_region (λ v. ⊥) work c.args.journal (is_apart work root) (λ s0 s e. OnlyBrings work root s e.call) told here (placing_has work root c.requires.apart.target).journal c.place_missing.ensures.moves)
+    (subst (λ w. KeepsTexts (HaveMappedTree c.args.sides.now.names c.args.sides.now.source c.args.sides.now.target) w c.args.journal here after) c.at.ensures c.finish.ensures.journal)
 
 pub returns-clause-clears : goal.returns-clause-clears
 returns-clause-clears g c =

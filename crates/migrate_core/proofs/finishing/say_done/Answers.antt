@@ -8,6 +8,7 @@ use Rattle.move_journal.specs.Reading.{StandsIn}
 use Rattle.migrate_core.proofs.finishing.say_done.Goals as goal
 use Rattle.migrate_core.proofs.Lastings.{cleared_same, cleared_written, settle_finishes, texts_settled, texts_written, written_lasts}
 use Rattle.migrate_core.proofs.Movings.{settle_moves}
+use Rattle.migrate_core.specs.Lasting.{StaysBeside}
 use Rattle.migrate_core.specs.Leading.{FinishesFrom, progress_of}
 use Rattle.migration_sides.proofs.Lasting.{settle_lasts}
 use Rattle.migration_spec.proofs.Settling.{settle_seen_back}
@@ -121,13 +122,13 @@ pub returns-in_ok-write-in-Building-clause-lasts : goal.returns-in_ok-write-in-B
 returns-in_ok-write-in-Building-clause-lasts g c = written_lasts c.args.work.now (done_of c.args.journal) (g.F.Folder.told c.args.folder.now) (g.F.Folder.told c.write.new.folder) c.in_ok-write-in-Building.ensures.written
 
 pub returns-in_ok-settle-in-Done-clause-journal : goal.returns-in_ok-settle-in-Done-clause-journal
-returns-in_ok-settle-in-Done-clause-journal g c = texts_settled c.args.work.now c.args.journal (g.F.Folder.told c.args.folder.now) (g.F.Folder.told c.settle.new.self) c.settle.result c.settle.ensures.changes
+returns-in_ok-settle-in-Done-clause-journal g c = texts_settled (StaysBeside c.args.work.now (g.F.Folder.told c.args.folder.now)) c.args.work.now c.args.journal (g.F.Folder.told c.args.folder.now) (g.F.Folder.told c.settle.new.self) c.settle.result c.settle.ensures.changes
 
 pub returns-in_err-settle-in-Done-clause-journal : goal.returns-in_err-settle-in-Done-clause-journal
-returns-in_err-settle-in-Done-clause-journal g c = texts_settled c.args.work.now c.args.journal (g.F.Folder.told c.args.folder.now) (g.F.Folder.told c.settle.new.self) c.settle.result c.settle.ensures.changes
+returns-in_err-settle-in-Done-clause-journal g c = texts_settled (StaysBeside c.args.work.now (g.F.Folder.told c.args.folder.now)) c.args.work.now c.args.journal (g.F.Folder.told c.args.folder.now) (g.F.Folder.told c.settle.new.self) c.settle.result c.settle.ensures.changes
 
 pub returns-in_ok-write-in-Building-clause-journal : goal.returns-in_ok-write-in-Building-clause-journal
-returns-in_ok-write-in-Building-clause-journal g c = texts_written c.args.work.now c.args.journal (g.F.Folder.told c.args.folder.now) (g.F.Folder.told c.write.new.folder) c.in-Building.is c.write.ensures.moments
+returns-in_ok-write-in-Building-clause-journal g c = texts_written (StaysBeside c.args.work.now (g.F.Folder.told c.args.folder.now)) c.args.work.now c.args.journal (g.F.Folder.told c.args.folder.now) (g.F.Folder.told c.write.new.folder) (g.met.F.Folder.sound c.args.folder.now) (λ w stays. stays) c.in-Building.is c.write.ensures.moments
 
 pub returns-in_err-write-in-Building-clause-journal : goal.returns-in_err-write-in-Building-clause-journal
-returns-in_err-write-in-Building-clause-journal g c = texts_written c.args.work.now c.args.journal (g.F.Folder.told c.args.folder.now) (g.F.Folder.told c.write.new.folder) c.in-Building.is c.write.ensures.moments
+returns-in_err-write-in-Building-clause-journal g c = texts_written (StaysBeside c.args.work.now (g.F.Folder.told c.args.folder.now)) c.args.work.now c.args.journal (g.F.Folder.told c.args.folder.now) (g.F.Folder.told c.write.new.folder) (g.met.F.Folder.sound c.args.folder.now) (λ w stays. stays) c.in-Building.is c.write.ensures.moments

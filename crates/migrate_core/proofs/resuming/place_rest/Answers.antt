@@ -13,9 +13,10 @@ use Rattle.migrate_core.proofs.Leadings.{alone_goes, goes_failed, then_known}
 use Rattle.migrate_core.proofs.Movings.{moves_on, items_stay}
 use Rattle.migrate_core.proofs.Restaged.{rest_goes, stage_alone, stage_apart, stage_stays, still_known, stage_readied}
 use Rattle.migrate_core.proofs.WorkFolders.{staging_has, work_folder_stays, journal_stays}
+use Rattle.folder_spec.specs.View.{View}
 use Rattle.folder_spec.specs.Seen.{IfSeen}
 use Rattle.migrate_core.proofs.Endings.{if_ok_more}
-use Rattle.migrate_core.specs.Moved.{Moved, lacking}
+use Rattle.migrate_core.specs.Moved.{HaveMappedTree, Moved, lacking}
 use Rattle.migrate_core.specs.Causes.{IsOfMoving, Moves, Unless, StopsAt, StopsSeen}
 use Rattle.migrate_core.specs.Copying.{HasCopied, BothHaveOwnFolders, CopiesAll, StayGood}
 use Rattle.migrate_core.specs.Faults.{of_work}
@@ -50,13 +51,13 @@ module _ (g : Over) (c : After-again g) where
   rest_stays : FromTo (λ a b. IsAsBefore (apart_from (stage_path c.args.work.now)) a.state b.state) (g.F.Folder.told c.args.folder.now) (g.F.Folder.told c.again.new.folder)
   rest_stays = stage_stays c.args.work.now c.args.sides.now.target.root (g.F.Folder.told c.args.folder.now) (g.F.Folder.told c.again.new.folder) c.requires.apart.target c.again.ensures.restages.moments
 
-  again_keeps : KeepsTexts c.args.work.now c.args.journal (g.F.Folder.told c.args.folder.now) (g.F.Folder.told c.again.new.folder)
-  again_keeps =
+  again_keeps : (Is : View → Type 0) → KeepsTexts Is c.args.work.now c.args.journal (g.F.Folder.told c.args.folder.now) (g.F.Folder.told c.again.new.folder)
+  again_keeps Is =
       let work = c.args.work.now in
       let root = c.args.sides.now.target.root in
       let t0 = g.F.Folder.told c.args.folder.now in
       let t1 = g.F.Folder.told c.again.new.folder in
-      texts_by_region work c.args.journal (apart_from (stage_path work)) (λ s0 s e. OnlyBrings work root s e.call) t0 t1 (staging_has work).journal
+      texts_by_region Is work c.args.journal (apart_from (stage_path work)) (λ s0 s e. OnlyBrings work root s e.call) t0 t1 (staging_has work).journal
       (changing_moves work (stage_path work) (IsStage work) (IsBelowStage work) root t0 t1 (stage_apart work root c.requires.apart.target) c.again.ensures.restages.moments)
 
   no_file : WritesBeside c.args.sides.now.target.root (λ file. ⊥) (g.F.Folder.told c.args.folder.now) (g.F.Folder.told c.again.new.folder)
@@ -237,7 +238,7 @@ pub returns-in_err-again-clause-drew : goal.returns-in_err-again-clause-drew
 returns-in_err-again-clause-drew g c = drew_refused c.draws_compose.ensures.none (g.R.Randoms.left c.args.random.now) c.from_residual.result _ c.from_residual.ensures.1 (work_tested c.in_err-again.field-0.0).1
 
 pub returns-in_err-again-clause-journal : goal.returns-in_err-again-clause-journal
-returns-in_err-again-clause-journal g c = again_keeps g (goal.at.returns-in_err-again-clause-journal g c).After-again
+returns-in_err-again-clause-journal g c = again_keeps g (goal.at.returns-in_err-again-clause-journal g c).After-again (HaveMappedTree c.args.sides.now.names c.args.sides.now.source c.args.sides.now.target)
 
 pub returns-clause-journal : goal.returns-clause-journal
 returns-clause-journal g c =
@@ -245,7 +246,8 @@ returns-clause-journal g c =
     let told = g.F.Folder.told c.args.folder.now in
     let ready = g.F.Folder.told c.again.new.folder in
     let after = g.F.Folder.told c.go_on.new.folder in
-    keeps_then work c.args.journal told ready after (g.met.F.Folder.sound c.again.new.folder) (again_keeps g (goal.at.returns-clause-journal g c).After-again) (subst (λ w. KeepsTexts w c.args.journal ready after) c.in_ok-again.ensures.path c.go_on.ensures.journal)
+    let Trees = HaveMappedTree c.args.sides.now.names c.args.sides.now.source c.args.sides.now.target in
+    keeps_then Trees work c.args.journal told ready after (again_keeps g (goal.at.returns-clause-journal g c).After-again (λ v. ⊥)) (subst (λ w. KeepsTexts Trees w c.args.journal ready after) c.in_ok-again.ensures.path c.go_on.ensures.journal)
 
 pub returns-clause-clears : goal.returns-clause-clears
 returns-clause-clears g c =

@@ -1,5 +1,6 @@
 use Rattle.folder_spec.specs.Region.{apart_from_both}
 use Rattle.migrate_core.proofs.Movings.{moves_on, settle_moves}
+use Rattle.folder_spec.specs.View.{View}
 use Rattle.folder_spec.specs.Seen.{IfSeen}
 use Rattle.migrate_core.proofs.Endings.{if_ok_more, told_before}
 use Rattle.migrate_core.specs.Moved.{MovesTold}
@@ -12,7 +13,7 @@ use Rattle.migrate_core.proofs.Completing.{folder_chance, own_faults}
 use Rattle.migrate_core.proofs.Continuing.{resume_completes}
 use Rattle.migrate_core.proofs.Limits.{as_told_before, limit_more, none_compared}
 use Rattle.migrate_core.specs.Limits.{PassesAsTold}
-use Rattle.migrate_core.proofs.Drawing.{drew_refused}
+use Rattle.migrate_core.proofs.Drawing.{drew_refused, undrawn_on}
 use Rattle.migrate_core.proofs.resuming.resume.Goals as goal
 use Rattle.migration_spec.proofs.Settling.{settle_fell, settle_seen, settle_seen_back}
 use Rattle.migrate_core.proofs.Settled.{settle_goes}
@@ -21,8 +22,8 @@ use Rattle.migration_sides.proofs.Chains.{fault_as, refused_as}
 use Rattle.migration_sides.proofs.Told.{folder_unless}
 use Rattle.migrate_core.proofs.Tested.{folder_tested}
 use Rattle.migration_sides.proofs.Unchanged.{tested_settled, unchanged_settled}
-use Rattle.migrate_core.proofs.Lastings.{clears_settled, journal_fell, journal_kept, on_ok_more, settle_ends}
-use Rattle.migrate_core.specs.Lasting.{Clears, EndsEach, EndsEachSettled}
+use Rattle.migrate_core.proofs.Lastings.{clears_settled, journal_fell, journal_kept, on_ok_more, settle_ends, texts_settled}
+use Rattle.migrate_core.specs.Lasting.{Clears, EndsEach, EndsEachSettled, HaveToldTrees}
 
 pub returns-in_err-settle-clause-guard : goal.returns-in_err-settle-clause-guard
 returns-in_err-settle-clause-guard g c = λ migration resumed opened.
@@ -133,14 +134,15 @@ returns-clause-clears g c =
 
 pub returns-in_err-settle-clause-journal : goal.returns-in_err-settle-clause-journal
 returns-in_err-settle-clause-journal g c v journal seen is stands =
-    journal_fell c.args.work.now journal (g.F.Folder.told c.args.folder.now) (g.F.Folder.told c.settle.new.self) c.settle.result v seen stands c.settle.ensures.changes
+    journal_fell (HaveToldTrees c.args.source_pass.now c.args.target_pass.now v journal) c.args.work.now journal (g.F.Folder.told c.args.folder.now) (g.F.Folder.told c.settle.new.self) c.settle.result v seen stands c.settle.ensures.changes
 
 pub returns-clause-journal : goal.returns-clause-journal
 returns-clause-journal g c v journal seen is stands =
     let t0 = g.F.Folder.told c.args.folder.now in
     let t1 = g.F.Folder.told c.settle.new.self in
     let t2 = g.F.Folder.told c.resume_settled.new.folder in
-    journal_kept c.args.work.now journal t0 t1 t2 c.in_ok-settle.field-0 v (g.met.F.Folder.sound c.settle.new.self) seen stands c.in_ok-settle.ensures.changes
+    journal_kept (HaveToldTrees c.args.source_pass.now c.args.target_pass.now v journal) c.args.work.now journal t0 t1 t2 c.in_ok-settle.field-0 v (g.met.F.Folder.sound c.settle.new.self) seen stands c.in_ok-settle.ensures.changes
+    (texts_settled (λ x. ⊥) c.args.work.now journal t0 t1 c.settle.result c.settle.ensures.changes)
     (c.resume_settled.ensures.journal v journal (settle_seen t0 t1 c.in_ok-settle.field-0 c.in_ok-settle.ensures.changes v seen) is stands)
 
 pub returns-clause-finishes : goal.returns-clause-finishes
@@ -156,3 +158,13 @@ returns-clause-finishes g c =
     (λ ends migration resumed opened.
     settle_ends law.settles law.alone migration t0 t1 t2 c.in_ok-settle.field-0 (g.met.F.Folder.sound c.args.folder.now) (g.met.F.Folder.sound c.settle.new.self) c.in_ok-settle.ensures.changes
     (ends migration resumed (λ v seen. opened v (settle_seen_back t0 t1 (Ok c.in_ok-settle.field-0) c.in_ok-settle.ensures.changes v seen)))) c.resume_settled.ensures.finishes
+
+pub returns-in_err-settle-clause-undrawn : goal.returns-in_err-settle-clause-undrawn
+returns-in_err-settle-clause-undrawn g c = inl (c.draws_compose.ensures.none (g.R.Randoms.left c.args.random.now))
+
+pub returns-clause-undrawn : goal.returns-clause-undrawn
+returns-clause-undrawn g c =
+    let t0 = g.F.Folder.told c.args.folder.now in
+    let t1 = g.F.Folder.told c.settle.new.self in
+    let Passed : View → Type 0 = λ v. IfErr c.resume_settled.result IsOfPlacing × PassesResume c.args.work.now c.args.source_pass.now c.args.target_pass.now v in
+    undrawn_on Passed Passed t0 t1 (settle_seen t0 t1 c.in_ok-settle.field-0 c.in_ok-settle.ensures.changes) (λ v is passed. passed) c.resume_settled.ensures.undrawn

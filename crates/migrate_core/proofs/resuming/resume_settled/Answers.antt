@@ -23,15 +23,17 @@ use Rattle.migrate_core.proofs.WrittenTrees.{nothing_written, told_of}
 use Rattle.migrate_core.specs.Written.{MayWriteTreeBy, done_texts}
 use Rattle.migrate_core.proofs.Limits.{limit_more, none_compared}
 use Rattle.migrate_core.specs.Limits.{PassesAsTold, PassesInTree}
-use Rattle.migrate_core.proofs.Drawing.{drew_refused}
+use Rattle.migrate_core.proofs.Drawing.{drew_refused, undrawn_on}
+use Rattle.migrate_core.proofs.resuming.resume_settled.Given.{Over}
 use Rattle.migrate_core.proofs.resuming.resume_settled.Goals as goal
+use Rattle.migrate_core.proofs.resuming.resume_settled.Goals.{After-resume_told}
 use Rattle.migration_sides.proofs.Chains.{fault_as, passed_is, refused_as, then_passes, then_refused}
 use Rattle.migrate_core.specs.declared.fault.MoveFault.TheVariants.{Failed, NoMemory}
 use Rattle.migrate_core.proofs.Tested.{journal_tested, step_tested, work_tested}
 use Rattle.folder_spec.specs.Path.{Path}
 use Rattle.folder_spec.specs.View.{View}
 use Rattle.migrate_core.proofs.Lastings.{on_ok_more, texts_same}
-use Rattle.migrate_core.specs.Lasting.{Clears, EndsEachSettled, KeepsTexts}
+use Rattle.migrate_core.specs.Lasting.{Clears, EndsEachSettled, HaveToldTrees, KeepsTexts}
 
 -- behind the journal: the folders don't overlap, and nothing foreign stands in the work folder
 module _ (work : Path) (pass pass' : List ℕ) (v : View) where
@@ -186,24 +188,39 @@ returns-in_err-test_apart-clause-tested g c = inl c.read.ensures.told
 pub returns-in_err-look_again-clause-tested : goal.returns-in_err-look_again-clause-tested
 returns-in_err-look_again-clause-tested g c = inl (c.look_again.ensures.told ∙ c.read.ensures.told)
 
+-- the tests pass with those behind
+module _ (g : Over) (c : After-resume_told g) where
+  abbrev PassedBehind : View → Type 0
+  PassedBehind v = IfErr c.resume_told.result IsOfPlacing × PassesTold c.args.work.now c.args.source_pass.now c.args.target_pass.now c.in_ok-journal.journal v
+
+  abbrev Passed : View → Type 0
+  Passed v = IfErr c.resume_told.result IsOfPlacing × PassesResume c.args.work.now c.args.source_pass.now c.args.target_pass.now v
+
+  passing : (v : View) → IsSeen (g.F.Folder.told c.args.folder.now) v → PassedBehind v → Passed v
+  passing v seen told =
+      let work = c.args.work.now in
+      let pass = c.args.source_pass.now in
+      let pass' = c.args.target_pass.now in
+      let read = c.in_ok-journal.journal in (
+        told.0,
+        record {
+          journal = read;
+          reads = c.in_ok-journal.ensures.answer v seen;
+          apart = passed_is steps.Failed steps.NoMemory tt (TestsApart read.source read.target work (Ok tt)) c.in_ok-test_apart.ensures.cause;
+          entries = subst (λ old. TestsEntries old v work (Ok tt)) c.is_done.ensures (c.in_ok-look_again.ensures.answer v (subst (λ t. IsSeen t v) (sym c.read.ensures.told) seen));
+          told = told.1;
+        },
+      )
+
 pub returns-clause-tested : goal.returns-clause-tested
 returns-clause-tested g c =
-    let work = c.args.work.now in
-    let pass = c.args.source_pass.now in
-    let pass' = c.args.target_pass.now in
-    let read = c.in_ok-journal.journal in
-    tested_on (g.F.Folder.told c.args.folder.now) (g.F.Folder.told c.look_again.new.folder) (g.F.Folder.told c.resume_told.new.folder)
-    (λ v. IfErr c.resume_told.result IsOfPlacing × PassesTold work pass pass' read v) c.resume_told.ensures.tested (λ v. IfErr c.resume_told.result IsOfPlacing × PassesResume work pass pass' v) (c.look_again.ensures.told ∙ c.read.ensures.told)
-    (λ v seen told. (
-      told.0,
-      record {
-        journal = read;
-        reads = c.in_ok-journal.ensures.answer v seen;
-        apart = passed_is steps.Failed steps.NoMemory tt (TestsApart read.source read.target work (Ok tt)) c.in_ok-test_apart.ensures.cause;
-        entries = subst (λ old. TestsEntries old v work (Ok tt)) c.is_done.ensures (c.in_ok-look_again.ensures.answer v (subst (λ t. IsSeen t v) (sym c.read.ensures.told) seen));
-        told = told.1;
-      },
-    ))
+    let after = (goal.at.returns-clause-tested g c).After-resume_told in
+    tested_on (g.F.Folder.told c.args.folder.now) (g.F.Folder.told c.look_again.new.folder) (g.F.Folder.told c.resume_told.new.folder) (PassedBehind g after) c.resume_told.ensures.tested (Passed g after) (c.look_again.ensures.told ∙ c.read.ensures.told) (passing g after)
+
+pub returns-clause-undrawn : goal.returns-clause-undrawn
+returns-clause-undrawn g c =
+    let after = (goal.at.returns-clause-undrawn g c).After-resume_told in
+    undrawn_on (PassedBehind g after) (Passed g after) (g.F.Folder.told c.args.folder.now) (g.F.Folder.told c.look_again.new.folder) (λ v is. subst (λ t. IsSeen t v) (sym (c.look_again.ensures.told ∙ c.read.ensures.told)) is) (passing g after) c.resume_told.ensures.undrawn
 
 pub returns-in_err-journal-clause-too_long : goal.returns-in_err-journal-clause-too_long
 returns-in_err-journal-clause-too_long g c v seen =
@@ -264,18 +281,28 @@ returns-clause-finishes g c =
     (subst (λ t. EndsEachSettled work pass pass' t after) (c.look_again.ensures.told ∙ c.read.ensures.told)) c.resume_told.ensures.finishes
 
 pub returns-in_err-journal-clause-journal : goal.returns-in_err-journal-clause-journal
-returns-in_err-journal-clause-journal g c v journal seen is stands = texts_same c.args.work.now journal (g.F.Folder.told c.args.folder.now) (g.F.Folder.told c.read.new.folder) c.read.ensures.told
+returns-in_err-journal-clause-journal g c v journal seen is stands = texts_same (HaveToldTrees c.args.source_pass.now c.args.target_pass.now v journal) c.args.work.now journal (g.F.Folder.told c.args.folder.now) (g.F.Folder.told c.read.new.folder) c.read.ensures.told
 
 pub returns-in_err-test_apart-clause-journal : goal.returns-in_err-test_apart-clause-journal
-returns-in_err-test_apart-clause-journal g c v journal seen is stands = texts_same c.args.work.now journal (g.F.Folder.told c.args.folder.now) (g.F.Folder.told c.read.new.folder) c.read.ensures.told
+returns-in_err-test_apart-clause-journal g c v journal seen is stands = texts_same (HaveToldTrees c.args.source_pass.now c.args.target_pass.now v journal) c.args.work.now journal (g.F.Folder.told c.args.folder.now) (g.F.Folder.told c.read.new.folder) c.read.ensures.told
 
 pub returns-in_err-look_again-clause-journal : goal.returns-in_err-look_again-clause-journal
-returns-in_err-look_again-clause-journal g c v journal seen is stands = texts_same c.args.work.now journal (g.F.Folder.told c.args.folder.now) (g.F.Folder.told c.look_again.new.folder) (c.look_again.ensures.told ∙ c.read.ensures.told)
+returns-in_err-look_again-clause-journal g c v journal seen is stands = texts_same (HaveToldTrees c.args.source_pass.now c.args.target_pass.now v journal) c.args.work.now journal (g.F.Folder.told c.args.folder.now) (g.F.Folder.told c.look_again.new.folder) (c.look_again.ensures.told ∙ c.read.ensures.told)
 
 pub returns-clause-journal : goal.returns-clause-journal
 returns-clause-journal g c = λ v journal seen is stands.
     let after = g.F.Folder.told c.resume_told.new.folder in
     let read = c.in_ok-journal.journal in
-    subst (λ (j : Journal). KeepsTexts c.args.work.now j (g.F.Folder.told c.args.folder.now) after)
+    subst (λ (j : Journal). KeepsTexts (HaveToldTrees c.args.source_pass.now c.args.target_pass.now v j) c.args.work.now j (g.F.Folder.told c.args.folder.now) after)
     (c.journals_are_read_back.ensures.stands c.args.work.now v read journal c.in_ok-journal.ensures.journal is (read_stands c.args.work.now v read (c.in_ok-journal.ensures.answer v seen)) stands)
-    (subst (λ t. KeepsTexts c.args.work.now read t after) (c.look_again.ensures.told ∙ c.read.ensures.told) c.resume_told.ensures.journal)
+    (subst (λ t. KeepsTexts (HaveToldTrees c.args.source_pass.now c.args.target_pass.now v read) c.args.work.now read t after) (c.look_again.ensures.told ∙ c.read.ensures.told)
+    (c.resume_told.ensures.journal v (subst (λ t. IsSeen t v) (sym (c.look_again.ensures.told ∙ c.read.ensures.told)) seen)))
+
+pub returns-in_err-journal-clause-undrawn : goal.returns-in_err-journal-clause-undrawn
+returns-in_err-journal-clause-undrawn g c = inl (c.draws_compose.ensures.none (g.R.Randoms.left c.args.random.now))
+
+pub returns-in_err-test_apart-clause-undrawn : goal.returns-in_err-test_apart-clause-undrawn
+returns-in_err-test_apart-clause-undrawn g c = inl (c.draws_compose.ensures.none (g.R.Randoms.left c.args.random.now))
+
+pub returns-in_err-look_again-clause-undrawn : goal.returns-in_err-look_again-clause-undrawn
+returns-in_err-look_again-clause-undrawn g c = inl (c.draws_compose.ensures.none (g.R.Randoms.left c.args.random.now))

@@ -1,5 +1,6 @@
 use Rattle.std.proofs.Common.{◌≡◌, ◌∙◌, sym, subst, subst₂, Err, Ok, inl, IfErr}
 use Rattle.folder_spec.specs.Region.{apart_from_both}
+use Rattle.folder_spec.specs.View.{View}
 use Rattle.folder_spec.specs.Seen.{IsSeen, seen}
 use Rattle.migrate_core.specs.Leading.{Guards, progress_of}
 use Rattle.migrate_core.specs.Moving.{MovesOnly}
@@ -12,8 +13,8 @@ use Rattle.migrate_core.proofs.Blaming.{step_resumes}
 use Rattle.migrate_core.proofs.Movings.{moves_nowhere}
 use Rattle.migrate_core.proofs.Planned.{seen_of}
 use Rattle.migrate_core.proofs.Settled.{resumes, settled_by, still_settled}
-use Rattle.migrate_core.proofs.Endings.{tree_moved}
-use Rattle.migrate_core.specs.Moved.{Placed}
+use Rattle.migrate_core.proofs.Endings.{told_trees, tree_moved}
+use Rattle.migrate_core.specs.Moved.{HaveMappedTree, Placed}
 use Rattle.vault_spec.specs.Opened.{OpenedVault}
 use Rattle.migrate_core.specs.Causes.{Answer, IsOfPlacing, PassesTold, ResumesTold, ResumesWith, TestsSource, TestsToResume, Unless}
 use Rattle.migrate_core.specs.Faults.{of_step}
@@ -23,13 +24,15 @@ use Rattle.migrate_core.specs.Written.{MayWriteBy, done_texts}
 use Rattle.migrate_core.proofs.Limits.{limit_in_tree, none_compared}
 use Rattle.migrate_core.specs.Copying.{StayGood}
 use Rattle.migrate_core.specs.Limits.{EndsBy}
-use Rattle.migrate_core.proofs.Drawing.{drew_refused}
+use Rattle.migrate_core.proofs.Drawing.{drew_refused, undrawn_on}
+use Rattle.migrate_core.proofs.resuming.resume_told.Given.{Over}
 use Rattle.migrate_core.proofs.resuming.resume_told.Goals as goal
+use Rattle.migrate_core.proofs.resuming.resume_told.Goals.{After-resume_with}
 use Rattle.migration_sides.proofs.Chains.{fault_as, own_passes, own_refused, passed_is, refused_as}
 use Rattle.migrate_core.specs.declared.fault.MoveFault.TheVariants.{Failed, NoMemory}
 use Rattle.migrate_core.proofs.Tested.{step_tested}
-use Rattle.migrate_core.proofs.Lastings.{leads_of, on_ok_by, on_ok_more, settled_ends, texts_same}
-use Rattle.migrate_core.specs.Lasting.{Clears, EndsEachSettled, KeepsTexts}
+use Rattle.migrate_core.proofs.Lastings.{leads_of, on_ok_by, on_ok_more, settled_ends, texts_more, texts_same}
+use Rattle.migrate_core.specs.Lasting.{Clears, EndsEachSettled, HaveToldTrees, KeepsTexts}
 use Rattle.migrate_core.specs.Leading.{Leads}
 use Rattle.migration_spec.specs.Alone.{Finished}
 
@@ -173,25 +176,39 @@ returns-in_err-test_source-clause-tested g c = inl c.test_source.ensures.told
 pub returns-in_err-sides-clause-tested : goal.returns-in_err-sides-clause-tested
 returns-in_err-sides-clause-tested g c = inl (c.load_both.ensures.told ∙ c.test_source.ensures.told)
 
+-- the tests pass with those behind
+module _ (g : Over) (c : After-resume_with g) where
+  abbrev PassedBehind : View → Type 0
+  PassedBehind v = IfErr c.resume_with.result IsOfPlacing × TestsToResume c.in_ok-sides.sides.source c.in_ok-sides.sides.target c.args.journal v all_pass (Ok tt)
+
+  abbrev Passed : View → Type 0
+  Passed v = IfErr c.resume_with.result IsOfPlacing × PassesTold c.args.work.now c.args.source_pass.now c.args.target_pass.now c.args.journal v
+
+  passing : (v : View) → IsSeen (g.F.Folder.told c.args.folder.now) v → PassedBehind v → Passed v
+  passing v seen passed =
+      let work = c.args.work.now in
+      let journal = c.args.journal in
+      let pass = c.args.source_pass.now in
+      let pass' = c.args.target_pass.now in
+      let sides = c.in_ok-sides.sides in
+      let loads = c.in_ok-sides.ensures in
+      let once = subst (λ t. IsSeen t v) (sym c.test_source.ensures.told) seen in (
+        passed.0,
+        record {
+          source = passed_is Failed NoMemory tt (TestsSource journal.phase work journal.source v (Ok tt)) (c.in_ok-test_source.ensures.cause v seen);
+          vaults = both_open of_step v journal.source journal.target pass pass' (λ source target. TestsToResume source target journal v all_pass) sides.source sides.target loads.source loads.target (loads.opens_source v once) (loads.opens_target v once) passed.1;
+        },
+      )
+
 pub returns-clause-tested : goal.returns-clause-tested
 returns-clause-tested g c =
-    let work = c.args.work.now in
-    let journal = c.args.journal in
-    let pass = c.args.source_pass.now in
-    let pass' = c.args.target_pass.now in
-    let sides = c.in_ok-sides.sides in
-    let loads = c.in_ok-sides.ensures in
-    tested_on (g.F.Folder.told c.args.folder.now) (g.F.Folder.told c.load_both.new.folder) (g.F.Folder.told c.resume_with.new.folder)
-    (λ v. IfErr c.resume_with.result IsOfPlacing × TestsToResume sides.source sides.target journal v all_pass (Ok tt)) c.resume_with.ensures.tested
-    (λ v. IfErr c.resume_with.result IsOfPlacing × PassesTold work pass pass' journal v) (c.load_both.ensures.told ∙ c.test_source.ensures.told)
-    (λ v seen passed.
-    let once = subst (λ t. IsSeen t v) (sym c.test_source.ensures.told) seen in (
-      passed.0,
-      record {
-        source = passed_is Failed NoMemory tt (TestsSource journal.phase work journal.source v (Ok tt)) (c.in_ok-test_source.ensures.cause v seen);
-        vaults = both_open of_step v journal.source journal.target pass pass' (λ source target. TestsToResume source target journal v all_pass) sides.source sides.target loads.source loads.target (loads.opens_source v once) (loads.opens_target v once) passed.1;
-      },
-    ))
+    let after = (goal.at.returns-clause-tested g c).After-resume_with in
+    tested_on (g.F.Folder.told c.args.folder.now) (g.F.Folder.told c.load_both.new.folder) (g.F.Folder.told c.resume_with.new.folder) (PassedBehind g after) c.resume_with.ensures.tested (Passed g after) (c.load_both.ensures.told ∙ c.test_source.ensures.told) (passing g after)
+
+pub returns-clause-undrawn : goal.returns-clause-undrawn
+returns-clause-undrawn g c =
+    let after = (goal.at.returns-clause-undrawn g c).After-resume_with in
+    undrawn_on (PassedBehind g after) (Passed g after) (g.F.Folder.told c.args.folder.now) (g.F.Folder.told c.load_both.new.folder) (λ v is. subst (λ t. IsSeen t v) (sym (c.load_both.ensures.told ∙ c.test_source.ensures.told)) is) (passing g after) c.resume_with.ensures.undrawn
 
 pub returns-in_err-test_source-clause-too_long : goal.returns-in_err-test_source-clause-too_long
 returns-in_err-test_source-clause-too_long g c =
@@ -233,13 +250,27 @@ returns-clause-clears g c =
     (subst (λ t. Clears work t after) (c.load_both.ensures.told ∙ c.test_source.ensures.told)) c.resume_with.ensures.clears
 
 pub returns-in_err-test_source-clause-journal : goal.returns-in_err-test_source-clause-journal
-returns-in_err-test_source-clause-journal g c = texts_same c.args.work.now c.args.journal (g.F.Folder.told c.args.folder.now) (g.F.Folder.told c.test_source.new.folder) c.test_source.ensures.told
+returns-in_err-test_source-clause-journal g c v is = texts_same (HaveToldTrees c.args.source_pass.now c.args.target_pass.now v c.args.journal) c.args.work.now c.args.journal (g.F.Folder.told c.args.folder.now) (g.F.Folder.told c.test_source.new.folder) c.test_source.ensures.told
 
 pub returns-in_err-sides-clause-journal : goal.returns-in_err-sides-clause-journal
-returns-in_err-sides-clause-journal g c = texts_same c.args.work.now c.args.journal (g.F.Folder.told c.args.folder.now) (g.F.Folder.told c.load_both.new.folder) (c.load_both.ensures.told ∙ c.test_source.ensures.told)
+returns-in_err-sides-clause-journal g c v is = texts_same (HaveToldTrees c.args.source_pass.now c.args.target_pass.now v c.args.journal) c.args.work.now c.args.journal (g.F.Folder.told c.args.folder.now) (g.F.Folder.told c.load_both.new.folder) (c.load_both.ensures.told ∙ c.test_source.ensures.told)
 
 pub returns-clause-journal : goal.returns-clause-journal
-returns-clause-journal g c = subst (λ t. KeepsTexts c.args.work.now c.args.journal t (g.F.Folder.told c.resume_with.new.folder)) (c.load_both.ensures.told ∙ c.test_source.ensures.told) c.resume_with.ensures.journal
+returns-clause-journal g c v is =
+    let told = g.F.Folder.told c.args.folder.now in
+    let here = g.F.Folder.told c.load_both.new.folder in
+    let after = g.F.Folder.told c.resume_with.new.folder in
+    let work = c.args.work.now in
+    let journal = c.args.journal in
+    let sides = c.in_ok-sides.sides in
+    let loads = c.in_ok-sides.ensures in
+    let pass = c.args.source_pass.now in
+    let pass' = c.args.target_pass.now in
+    let once = subst (λ t. IsSeen t v) (sym c.test_source.ensures.told) is in
+    subst (λ t. KeepsTexts (HaveToldTrees pass pass' v journal) work journal t after) (c.load_both.ensures.told ∙ c.test_source.ensures.told)
+    (texts_more (HaveMappedTree sides.names sides.source sides.target) (HaveToldTrees pass pass' v journal) work journal here after
+    (λ a here_is w trees. told_trees pass pass' v w journal sides.names sides.source sides.target loads.names loads.source loads.target (loads.opens_source v once) (loads.opens_target v once) trees)
+    c.resume_with.ensures.journal)
 
 pub returns-clause-finishes : goal.returns-clause-finishes
 returns-clause-finishes g c =
@@ -264,3 +295,9 @@ returns-clause-finishes g c =
       again.found.alone,
       subst (λ t. Leads migration at Finished t t3) same (leads_of migration at Finished t2 t3 c.resume_with.result done is_done (c.resume_with.ensures.guard migration again.found.sides again.tells)),
     )))
+
+pub returns-in_err-test_source-clause-undrawn : goal.returns-in_err-test_source-clause-undrawn
+returns-in_err-test_source-clause-undrawn g c = inl (c.draws_compose.ensures.none (g.R.Randoms.left c.args.random.now))
+
+pub returns-in_err-sides-clause-undrawn : goal.returns-in_err-sides-clause-undrawn
+returns-in_err-sides-clause-undrawn g c = inl (c.draws_compose.ensures.none (g.R.Randoms.left c.args.random.now))

@@ -1,6 +1,6 @@
-use Rattle.std.proofs.Common.{◌≡◌, ◌∙◌, sym, subst, arith, Err, List, Ok, [], inl, inr, refl, ◌∷◌}
+use Rattle.std.proofs.Common.{◌≡◌, ◌∙◌, sym, subst, arith, Err, IfErr, List, Ok, [], inl, inr, refl, ◌∷◌}
 use Rattle.migrate_core.proofs.Endings.{if_ok_more, placed_of}
-use Rattle.migrate_core.specs.Moved.{lacking}
+use Rattle.migrate_core.specs.Moved.{HaveMappedTree, lacking}
 use Rattle.folder_spec.specs.Seen.{IfSeen, IsSeen}
 use Rattle.migration_spec.specs.Alone.{Finished}
 use Rattle.migrate_core.specs.Leading.{Goes, progress_of}
@@ -12,7 +12,7 @@ use Rattle.migrate_core.proofs.Blaming.{step_resumes}
 use Rattle.migrate_core.proofs.Leadings.{refused_nowhere}
 use Rattle.migrate_core.proofs.Movings.{moves_nowhere}
 use Rattle.migrate_core.proofs.Causing.{items_pass, items_refused}
-use Rattle.migrate_core.specs.Causes.{Answer, Moves, ResumesWith, TestsItems, TestsToResume, Unless}
+use Rattle.migrate_core.specs.Causes.{Answer, IsOfPlacing, Moves, ResumesWith, TestsItems, TestsToResume, Unless}
 use Rattle.migrate_core.specs.Faults.{of_step}
 use Rattle.work_folder.specs.Entering.{Empties}
 use Rattle.vault_spec.specs.Plan.{Planned}
@@ -26,7 +26,9 @@ use Rattle.migrate_core.specs.Copying.{StayGood}
 use Rattle.migrate_core.specs.Limits.{EndsBy}
 use Rattle.migrate_core.proofs.Sharing.{whichever_taken}
 use Rattle.migrate_core.proofs.Drawing.{drew_refused}
+use Rattle.migrate_core.proofs.resuming.resume_with.Given.{Over}
 use Rattle.migrate_core.proofs.resuming.resume_with.Goals as goal
+use Rattle.migrate_core.proofs.resuming.resume_with.Goals.{After-place_rest}
 use Rattle.migration_sides.proofs.Chains.{fault_as, passed_is, refused_as}
 use Rattle.migration_sides.specs.Tests.{all_pass}
 use Rattle.migrate_core.specs.declared.fault.MoveFault.TheVariants.{Failed, NoMemory}
@@ -168,19 +170,27 @@ returns-in_err-plans-clause-tested g c = inl c.walk_both.ensures.told
 pub returns-in_err-mapped-clause-tested : goal.returns-in_err-mapped-clause-tested
 returns-in_err-mapped-clause-tested g c = inl (c.test_plans.ensures.told ∙ c.walk_both.ensures.told)
 
+-- all tests pass where it comes to the end
+module _ (g : Over) (c : After-place_rest g) where
+  all_passed : IfSeen (g.F.Folder.told c.args.folder.now) (λ v. IfErr c.place_rest.result IsOfPlacing × TestsToResume c.args.sides.now.source c.args.sides.now.target c.args.journal v all_pass (Ok tt))
+  all_passed v seen =
+      let from = c.args.sides.now.source in
+      let to = c.args.sides.now.target in
+      let journal = c.args.journal in
+      let items = c.in_ok-plans.plans.source.items in
+      let there = c.in_ok-plans.plans.target.items in
+      let once = subst (λ t. IsSeen t v) (sym c.walk_both.ensures.told) seen in
+      let moved = c.place_rest.ensures.cause v (subst (λ t. IsSeen t v) (sym c.test_plans.ensures.told) once) in
+      let passed : TestsToResume from to journal v all_pass (Ok tt) = passed_is Failed NoMemory tt (TestsToResume from to journal v all_pass (Ok tt))
+      (walks_passes of_step from to v (λ items there. TestsItems from to journal v items there all_pass) (Ok tt) items there (c.in_ok-plans.ensures.passed_source v seen) (c.in_ok-plans.ensures.passed_target v seen)
+      (items_pass from to journal v items there all_pass c.in_ok-mapped.mapped.items (Ok tt) (c.in_ok-mapped.ensures.passed v once) (inr (inr refl)))) in
+      (moves_places (Empties v c.args.work.now) from to v c.in_ok-mapped.mapped.items c.place_rest.result moved, passed)
+
 pub returns-clause-tested : goal.returns-clause-tested
-returns-clause-tested g c = inr (λ v seen.
-    let from = c.args.sides.now.source in
-    let to = c.args.sides.now.target in
-    let journal = c.args.journal in
-    let items = c.in_ok-plans.plans.source.items in
-    let there = c.in_ok-plans.plans.target.items in
-    let once = subst (λ t. IsSeen t v) (sym c.walk_both.ensures.told) seen in
-    let moved = c.place_rest.ensures.cause v (subst (λ t. IsSeen t v) (sym c.test_plans.ensures.told) once) in
-    let passed : TestsToResume from to journal v all_pass (Ok tt) = passed_is Failed NoMemory tt (TestsToResume from to journal v all_pass (Ok tt))
-    (walks_passes of_step from to v (λ items there. TestsItems from to journal v items there all_pass) (Ok tt) items there (c.in_ok-plans.ensures.passed_source v seen) (c.in_ok-plans.ensures.passed_target v seen)
-    (items_pass from to journal v items there all_pass c.in_ok-mapped.mapped.items (Ok tt) (c.in_ok-mapped.ensures.passed v once) (inr (inr refl)))) in
-    (moves_places (Empties v c.args.work.now) from to v c.in_ok-mapped.mapped.items c.place_rest.result moved, passed))
+returns-clause-tested g c = inr (all_passed g (goal.at.returns-clause-tested g c).After-place_rest)
+
+pub returns-clause-undrawn : goal.returns-clause-undrawn
+returns-clause-undrawn g c = inr (all_passed g (goal.at.returns-clause-undrawn g c).After-place_rest)
 
 pub place_rest-requires-clause-copying : goal.place_rest-requires-clause-copying
 place_rest-requires-clause-copying g c =
@@ -213,6 +223,11 @@ returns-clause-ends g c =
     let rule = c.args.sides.now.names in
     let from = c.args.sides.now.source in
     let to = c.args.sides.now.target in
+    let work = c.args.work.now in
+    let plans = c.in_ok-plans.plans in
+    let mapped = c.in_ok-mapped.mapped.items in
+    let there = plans.target.items in
+    let told = g.F.Folder.told c.args.folder.now in
     let after = g.F.Folder.told c.place_rest.new.folder in
     subst (λ t. EndsBy (StayGood from to t after) (Unit {0}) rule from to after c.place_rest.result) (c.test_plans.ensures.told ∙ c.walk_both.ensures.told) c.place_rest.ensures.ends
 
@@ -236,10 +251,16 @@ returns-clause-clears g c =
     (subst (λ t. Clears work t after) (c.test_plans.ensures.told ∙ c.walk_both.ensures.told)) c.place_rest.ensures.clears
 
 pub returns-in_err-plans-clause-journal : goal.returns-in_err-plans-clause-journal
-returns-in_err-plans-clause-journal g c = texts_same c.args.work.now c.args.journal (g.F.Folder.told c.args.folder.now) (g.F.Folder.told c.walk_both.new.folder) c.walk_both.ensures.told
+returns-in_err-plans-clause-journal g c = texts_same (HaveMappedTree c.args.sides.now.names c.args.sides.now.source c.args.sides.now.target) c.args.work.now c.args.journal (g.F.Folder.told c.args.folder.now) (g.F.Folder.told c.walk_both.new.folder) c.walk_both.ensures.told
 
 pub returns-in_err-mapped-clause-journal : goal.returns-in_err-mapped-clause-journal
-returns-in_err-mapped-clause-journal g c = texts_same c.args.work.now c.args.journal (g.F.Folder.told c.args.folder.now) (g.F.Folder.told c.test_plans.new.folder) (c.test_plans.ensures.told ∙ c.walk_both.ensures.told)
+returns-in_err-mapped-clause-journal g c = texts_same (HaveMappedTree c.args.sides.now.names c.args.sides.now.source c.args.sides.now.target) c.args.work.now c.args.journal (g.F.Folder.told c.args.folder.now) (g.F.Folder.told c.test_plans.new.folder) (c.test_plans.ensures.told ∙ c.walk_both.ensures.told)
 
 pub returns-clause-journal : goal.returns-clause-journal
-returns-clause-journal g c = subst (λ t. KeepsTexts c.args.work.now c.args.journal t (g.F.Folder.told c.place_rest.new.folder)) (c.test_plans.ensures.told ∙ c.walk_both.ensures.told) c.place_rest.ensures.journal
+returns-clause-journal g c = subst (λ t. KeepsTexts (HaveMappedTree c.args.sides.now.names c.args.sides.now.source c.args.sides.now.target) c.args.work.now c.args.journal t (g.F.Folder.told c.place_rest.new.folder)) (c.test_plans.ensures.told ∙ c.walk_both.ensures.told) c.place_rest.ensures.journal
+
+pub returns-in_err-plans-clause-undrawn : goal.returns-in_err-plans-clause-undrawn
+returns-in_err-plans-clause-undrawn g c = inl (c.draws_compose.ensures.none (g.R.Randoms.left c.args.random.now))
+
+pub returns-in_err-mapped-clause-undrawn : goal.returns-in_err-mapped-clause-undrawn
+returns-in_err-mapped-clause-undrawn g c = inl (c.draws_compose.ensures.none (g.R.Randoms.left c.args.random.now))

@@ -81,6 +81,8 @@ returns-in-Ok-clause-came g c = λ v is.
         writes = c.in-Ok.ensures.written v seen;
         too_long = tt;
         tested = tested_seen (g.F.Folder.told c.read_passes.new.folder) told' (λ w. IfErr (Ok c.in-Ok.done) IsOfPlacing × PassesBegin moving.names moving.source moving.target moving.work c.as_slice.result.now c.as_slice-2.result.now w) v seen c.in-Ok.ensures.tested;
+        journal = c.in-Ok.ensures.journal v seen;
+        undrawn = elim c.in-Ok.ensures.undrawn [ inl none ↦ inl none | inr passed ↦ inr (passed v seen) ];
       });
       answers = refl;
     }
@@ -103,6 +105,8 @@ returns-clause-stopped g c = λ v is.
         writes = c.in-Err.ensures.written v seen;
         too_long = c.in-Err.ensures.too_long;
         tested = tested_seen (g.F.Folder.told c.read_passes.new.folder) told' (λ w. IsOfPlacing c.in-Err.fault × PassesBegin moving.names moving.source moving.target moving.work c.as_slice.result.now c.as_slice-2.result.now w) v seen c.in-Err.ensures.tested;
+        journal = c.in-Err.ensures.journal v seen;
+        undrawn = elim c.in-Err.ensures.undrawn [ inl none ↦ inl none | inr passed ↦ inr (passed v seen) ];
       });
       answers = elim c.answer_to_move.ensures.answers [ inl memory ↦ inl memory | inr same ↦ inr (c.root_of-root.result.now, c.root_of-root.ensures, same) ];
     })

@@ -1,7 +1,7 @@
 use Rattle.std.proofs.Common.{Ok, Err, IfErr, inl, inr, refl, sym, subst}
 use Rattle.std.proofs.lemmas.Result.{err_from_is_err_and}
 use Rattle.folder_spec.specs.Seen.{IfSeen, IsSeen}
-use Rattle.migrate_core.specs.Lasting.{Clears, Finishes, KeepsJournal}
+use Rattle.migrate_core.specs.Lasting.{Clears, Finishes}
 use Rattle.migrate_core.specs.Moved.{MovesTold}
 use Rattle.migrate_core.specs.Completing.{CanResume}
 use Rattle.migrate_core.specs.Moving.{MovesOnly}
@@ -9,8 +9,8 @@ use Rattle.migrate_core.specs.Causes.{IsOfPlacing, PassesResume}
 use Rattle.migration_sides.proofs.Unchanged.{tested_seen}
 use Rattle.migration_spec.specs.Guard.{Migration}
 use Rattle.migration_commands.specs.Moving.{ArePhrases, Completes}
-use Rattle.migration_commands.specs.Resume.{IsResumedFor, IsWritten, MayCome, root_by, unopened}
-use Rattle.migration_commands.proofs.Migrations.{chance_answered, done_drew, fault_drew, journal_root, journal_same, journal_since, keeps_since, keeps_same, phrases_are, read_completes, keys_read, keys_seen, unread_drew, unread_undrawn}
+use Rattle.migration_commands.specs.Resume.{HaveTrees, IsResumedFor, IsWritten, MayCome, root_by, unopened}
+use Rattle.migration_commands.proofs.Migrations.{chance_answered, done_drew, fault_drew, journal_root, journal_same, journal_since, journals_since, keeps_since, keeps_same, phrases_are, read_completes, keys_read, keys_seen, unread_drew, unread_undrawn}
 use Rattle.migration_commands.proofs.resuming.go_on.Goals as goal
 
 pub returns-in_err-known-clause-keeps : goal.returns-in_err-known-clause-keeps
@@ -85,6 +85,7 @@ returns-in-Ok-clause-came g c = λ v is.
         writes = c.in-Ok.ensures.written v seen;
         too_long = tt;
         tested = tested_seen (g.F.Folder.told c.learn.new.folder) told' (λ w. IfErr (Ok c.in-Ok.done) IsOfPlacing × PassesResume resuming.work c.as_slice.result.now c.as_slice-2.result.now w) v seen c.in-Ok.ensures.tested;
+        undrawn = elim c.in-Ok.ensures.undrawn [ inl none ↦ inl none | inr passed ↦ inr (passed v seen) ];
       });
       answers = refl;
     }
@@ -110,6 +111,7 @@ returns-clause-stopped g c = λ v is.
         writes = c.in-Err.ensures.written v seen;
         too_long = c.in-Err.ensures.too_long v seen;
         tested = tested_seen (g.F.Folder.told c.learn.new.folder) told' (λ w. IsOfPlacing c.in-Err.fault × PassesResume resuming.work c.as_slice.result.now c.as_slice-2.result.now w) v seen c.in-Err.ensures.tested;
+        undrawn = elim c.in-Err.ensures.undrawn [ inl none ↦ inl none | inr passed ↦ inr (passed v seen) ];
       });
       answers = elim c.stopped.ensures.answers [
         | inl memory ↦ inl memory
@@ -159,14 +161,24 @@ pub returns-clause-drew : goal.returns-clause-drew
 returns-clause-drew g c = fault_drew c.in-Err.fault c.stopped.result (g.R.Randoms.left c.args.random.now) (g.R.Randoms.left c.resume.new.random) c.stopped.ensures.zeros c.in-Err.ensures.drew
 
 pub returns-in_err-known-clause-journal : goal.returns-in_err-known-clause-journal
-returns-in_err-known-clause-journal g c = journal_same c.args.resuming.now.work (g.F.Folder.told c.args.folder.now) (g.F.Folder.told c.learn.new.folder) c.in_err-known.ensures.told
+returns-in_err-known-clause-journal g c = journal_same (HaveTrees c.args.resuming.now) c.args.resuming.now.work (g.F.Folder.told c.args.folder.now) (g.F.Folder.told c.learn.new.folder) c.in_err-known.ensures.told
 
 pub returns-in-Ok-clause-journal : goal.returns-in-Ok-clause-journal
 returns-in-Ok-clause-journal g c =
-    journal_since c.args.resuming.now.work (λ journal t. KeepsJournal c.args.resuming.now.work journal t (g.F.Folder.told c.resume.new.folder)) (g.F.Folder.told c.args.folder.now) (g.F.Folder.told c.learn.new.folder)
-    c.in_ok-known.ensures.told c.resume.ensures.journal
+    let passes = c.args.resuming.now.passes in
+    let phrases = c.in_ok-known.known.phrases in
+    let pass = c.as_slice.result.now in
+    let pass' = c.as_slice-2.result.now in
+    journals_since c.args.resuming.now pass pass' (g.F.Folder.told c.args.folder.now) (g.F.Folder.told c.learn.new.folder) (g.F.Folder.told c.resume.new.folder) c.in_ok-known.ensures.told
+    (λ v is. phrases_are passes phrases.source phrases.target pass pass' v c.as_slice.ensures c.as_slice-2.ensures (c.in_ok-known.ensures.source v is) (c.in_ok-known.ensures.target v is))
+    c.resume.ensures.journal
 
 pub returns-clause-journal : goal.returns-clause-journal
 returns-clause-journal g c =
-    journal_since c.args.resuming.now.work (λ journal t. KeepsJournal c.args.resuming.now.work journal t (g.F.Folder.told c.resume.new.folder)) (g.F.Folder.told c.args.folder.now) (g.F.Folder.told c.learn.new.folder)
-    c.in_ok-known.ensures.told c.resume.ensures.journal
+    let passes = c.args.resuming.now.passes in
+    let phrases = c.in_ok-known.known.phrases in
+    let pass = c.as_slice.result.now in
+    let pass' = c.as_slice-2.result.now in
+    journals_since c.args.resuming.now pass pass' (g.F.Folder.told c.args.folder.now) (g.F.Folder.told c.learn.new.folder) (g.F.Folder.told c.resume.new.folder) c.in_ok-known.ensures.told
+    (λ v is. phrases_are passes phrases.source phrases.target pass pass' v c.as_slice.ensures c.as_slice-2.ensures (c.in_ok-known.ensures.source v is) (c.in_ok-known.ensures.target v is))
+    c.resume.ensures.journal

@@ -79,7 +79,7 @@ adds vault work seed number item a b few one other opens tree stays holds =
       view = shown.0;
       alone = shown.1;
       good = shown.2.vault.good;
-      tidy = subst (IsTidy f) (seen_alone vault.root b.state shown.0 shown.1) (good.tidy holds.tidy);
+      tidy = subst (IsTidy f) (seen_alone vault.root b.state shown.0 shown.1) (λ at. good.tidy at (holds.tidy at));
       opens = shown.2.vault.loads phrase vault.vault holds.opens;
       items = items_more seed number (format_of vault.vault) (under vault.root holds.view) (under vault.root shown.0) few holds.items opens_with;
     }

@@ -1,5 +1,5 @@
 -- In a clean and tidy vault the place of the next item is taken only where it shares it.
-use Rattle.std.proofs.Common.{◌≡◌, ◌≢◌, ◌∙◌, ◌∷◌, ◌++◌, ◌<◌, ◌≤◌, ◌/◌, [], ℕ, append_assoc, Option, Bool, true, false, List, Some, None, Ok, IsTrue, arith, refl, sym, ap, subst}
+use Rattle.std.proofs.Common.{◌≡◌, ◌≢◌, ◌∙◌, ◌∷◌, ◌++◌, ◌<◌, ◌≤◌, ◌/◌, [], ℕ, append_assoc, Option, Some, Bool, true, false, List, Ok, IsTrue, arith, refl, sym, ap, subst}
 use Rattle.folder_spec.proofs.Moments.{went_more, went_nowhere, went_on}
 use Rattle.folder_spec.proofs.Tellings.{from_to_more, from_to_on, from_to_same}
 use Rattle.folder_spec.specs.Event.{Event, Told}
@@ -87,11 +87,8 @@ module _ (behind : StandBehind) (entered : EnteredLeads) (shows : HaveContents) 
         free = none;
         item = item;
         directory = directory;
-        shared = λ own. clash (sym is ∙ free v (item_front (is_directory number) number) dir (item_name (is_directory number) number) item drawn clean tidy leads (named (is_directory number) number) none own);
+        shared = λ own. free v (item_front (is_directory number) number) dir (item_name (is_directory number) number) item drawn place clean leads (named (is_directory number) number) none own (tidy place) is;
       }
-    where
-      clash : Some place ≡ None → ⊥
-      clash e = cc e
 
 -- ---- a folder goes on
 

@@ -52,7 +52,7 @@ pub record StopsAt (from to work : Path) (fault : MoveFault) (f f' r r' : ℕ) (
   pub completes : (g : Migration) → IfSeen t (λ v. IsAsked g Same from to work → AreOpenedBy g phrase phrase v → CanBegin g v → IsOfChance fault)
   pub too_long : IsOfLimit (PassesInTree Same from to phrase phrase t t') fault
   pub written : IfSeen t (λ v. MayWriteTree {T = Done} (Err fault) Same from to work phrase phrase s s' t t')
-  pub shared : IsOfTaken (SharesInTree Same from to phrase phrase s s' t t') fault
+  pub shared : IsOfTaken (SharesInTree Same from to work phrase phrase s s' t t') fault
   pub moves : MovesOnly work to t t'
 
 abbrev pub Stops : Leg → MoveFault → (f f' r r' : ℕ) → Option ByteStream → Option ByteStream → Option Told → Option Told → Type 0
@@ -112,7 +112,7 @@ module _ (alike : AreAlike) (one : HaveOneAnswer) (laws : AreMovable) (plans : P
       target_of leg,
       leg_shares one plans walks leg count s s' t t'
           (goes_by (λ s0 here. IsAsBefore (apart_from_both moving_folder (target_of leg)) s0 here) (λ s0 here e. OnlyBrings moving_folder (target_of leg) here e.call) t t' stops.moves)
-          (subst (IsOfTaken (SharesInTree Same (source_of leg) (target_of leg) phrase phrase s s' t t')) taken.1 stops.shared) sees,
+          (subst (IsOfTaken (SharesInTree Same (source_of leg) (target_of leg) moving_folder phrase phrase s s' t t')) taken.1 stops.shared) sees,
     );
     known = λ sees. (of_chance count t t' sound stops sees, no_limit count t t' sound stops sees);
   }) status ends

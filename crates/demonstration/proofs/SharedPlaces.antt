@@ -6,6 +6,7 @@ use Rattle.demo_core.specs.Sharing.{GoesOn, LacksOwnPlace, SharesPlace}
 use Rattle.demo_core.specs.Tree.{HasItems, opens_as}
 use Rattle.demo_core.proofs.Numbered.{number_at}
 use Rattle.demo_core.proofs.Standing.{same_vault}
+use Rattle.folder_spec.proofs.Moments.{went_nowhere}
 use Rattle.folder_spec.specs.Event.{Told}
 use Rattle.folder_spec.specs.Seen.{seen, under}
 use Rattle.folder_spec.specs.View.{View}
@@ -28,7 +29,7 @@ use Rattle.vault_spec.specs.Plan.{Planned}
 use Rattle.vault_spec.specs.Tidy.{IsTidy}
 use Rattle.vault_spec.specs.Vault.{IsVault, Vault, format_of}
 use Rattle.demonstration.specs.DemoSteps.{CanCarry, Sees}
-use Rattle.demonstration.specs.DemoTrees.{source_of, target_of}
+use Rattle.demonstration.specs.DemoTrees.{moving_folder, source_of, target_of}
 use Rattle.demonstration.specs.declared.leading.Leg.{Leg}
 use Rattle.demonstration.proofs.DemonstratedTrees.{no_root}
 use Rattle.demonstration.proofs.GoodOrder.{own_of_good}
@@ -54,17 +55,17 @@ made_directory node.Dir item is same = refl
 made_directory node.File item is same = let never : NewFile is.0 ≡ NewDirectory = sym is.1 ∙ same in cc never
 
 module _ (one : HaveOneAnswer) (plans : PlansTell) (walks : WalksStay) (leg : Leg) (seed count : ℕ) (a : Told) (can : CanCarry leg seed count (seen a.state)) where
-  lacks_place : (source target : Vault) → IsVault (under (source_of leg) (seen a.state)) phrase source → IsVault (under (target_of leg) (seen a.state)) phrase target → (s s' : Option ByteStream) (t t' : Option Told)
-      → (x : OneOfSourceShares Same (opened_in (source_of leg) source) (opened_in (target_of leg) target) s s' t t' (seen a.state))
+  lacks_place : (source target : Vault) → IsVault (under (source_of leg) (seen a.state)) phrase source → IsVault (under (target_of leg) (seen a.state)) phrase target → IsTidy (format_of target) (under (target_of leg) (seen a.state)) → (s s' : Option ByteStream) (t' : Option Told)
+      → (x : OneOfSourceShares Same (opened_in (source_of leg) source) (opened_in (target_of leg) target) moving_folder s s' t' (seen a.state))
       → (number : ℕ) × (number < count) × LacksOwnPlace number (under (target_of leg) x.shares.moment) x.shares.drawn
-  lacks_place source target opens_source opens_target s s' t t' x = (
+  lacks_place source target opens_source opens_target tidy s s' t' x = (
     found.0,
     found.1,
     record {
       vault = target;
       opens = x.shares.loads phrase target opens_target;
       clean = shares.good.clean;
-      tidy = shares.tidy;
+      tidy = λ at. shares.tidy at (tidy at);
       front = shares.front;
       name = shares.name;
       path = sym found.2 ∙ shares.is;
@@ -75,11 +76,11 @@ module _ (one : HaveOneAnswer) (plans : PlansTell) (walks : WalksStay) (leg : Le
       directory = λ is.
           directory_number seed found.0 (items_tree x.shares.item.path) (ap items_tree found.2 ∙ items.each found.0 found.1)
           (plan.nodes x.shares.item x.shares.among ∙ ap Some (made_directory x.shares.item.node shares.item shares.kind is));
-      shared = shares.shares;
+      shared = shares.shares (tidy shares.place);
     },
   )
     where
-      shares : moving.SharesPlace (opened_in (target_of leg) target) x.shares.item x.shares.drawn x.shares.moment
+      shares : moving.SharesPlace (opened_in (target_of leg) target) x.shares.item x.shares.drawn (seen a.state) x.shares.moment
       shares = x.shares.shares
 
       side : PlannedVault
@@ -99,20 +100,19 @@ module _ (one : HaveOneAnswer) (plans : PlansTell) (walks : WalksStay) (leg : Le
       found = number_at seed count (tree (format_of source) (under (source_of leg) (seen a.state))) items x.shares.item.path
           (λ root. no_root shares.front shares.name (sym shares.is ∙ root)) (some_opens (tree (format_of source) (under (source_of leg) (seen a.state)) x.shares.item.path) x.shares.item.node (plan.nodes x.shares.item x.shares.among))
 
-  one_shares : (b : Told) (s s' : Option ByteStream) → SharesInTree Same (source_of leg) (target_of leg) phrase phrase s s' (Some a) (Some b) → SharesPlace (target_of leg) (Some a) (Some b) s s' count
-  one_shares b s s' shares =
-      let lacks = lacks_place shares.source shares.target (shares.opens_source (seen a.state) refl) (shares.opens_target (seen a.state) refl) s s' (Some a) (Some b) x in
-      let was = x.shares.seen in
+  one_shares : (b : Told) → GoesOn (Some a) (Some b) → (s s' : Option ByteStream) → SharesInTree Same (source_of leg) (target_of leg) moving_folder phrase phrase s s' (Some a) (Some b) → SharesPlace (target_of leg) (Some a) (Some b) s s' count
+  one_shares b goes s s' shares =
+      let lacks = lacks_place shares.source shares.target (shares.opens_source (seen a.state) refl) (shares.opens_target (seen a.state) refl) tidy s s' (Some b) x in
       record {
-        now = was.0;
-        since = was.1;
-        until = was.2;
+        now = b;
+        since = goes;
+        until = went_nowhere (λ s. Unit {0}) (λ s e. Unit {0}) b tt;
         earlier = x.shares.earlier;
         drawn = x.shares.drawn;
         were_drawn = x.shares.were_drawn;
         number = lacks.0;
         first = lacks.1;
-        lacks = subst (λ v. LacksOwnPlace lacks.0 (under (target_of leg) v) x.shares.drawn) was.3 lacks.2;
+        lacks = subst (λ v. LacksOwnPlace lacks.0 (under (target_of leg) v) x.shares.drawn) x.shares.seen lacks.2;
       }
     where
       target_is : can.target.items.vault ≡ shares.target
@@ -121,16 +121,18 @@ module _ (one : HaveOneAnswer) (plans : PlansTell) (walks : WalksStay) (leg : Le
       source_is : can.source.items.vault ≡ shares.source
       source_is = same_vault one (under (source_of leg) (seen a.state)) can.source.items.vault shares.source can.source.items.opens (shares.opens_source (seen a.state) refl)
 
-      x : OneOfSourceShares Same (opened_in (source_of leg) shares.source) (opened_in (target_of leg) shares.target) s s' (Some a) (Some b) (seen a.state)
+      tidy : IsTidy (format_of shares.target) (under (target_of leg) (seen a.state))
+      tidy = subst (λ v. IsTidy (format_of v) (under (target_of leg) (seen a.state))) target_is can.tidy
+
+      x : OneOfSourceShares Same (opened_in (source_of leg) shares.source) (opened_in (target_of leg) shares.target) moving_folder s s' (Some b) (seen a.state)
       x = shares.shares (seen a.state) refl
           (record {
             source = subst (λ v. HasOwnFolders v (under (source_of leg) (seen a.state))) source_is (own_of_good can.source.items.vault (source_of leg) (seen a.state) can.source.good);
             target = subst (λ v. HasOwnFolders v (under (target_of leg) (seen a.state))) target_is (own_of_good can.target.items.vault (target_of leg) (seen a.state) can.target.good);
           })
-          (subst (λ v. IsTidy (format_of v) (under (target_of leg) (seen a.state))) target_is can.tidy)
 
-pub leg_shares : HaveOneAnswer → PlansTell → WalksStay → (leg : Leg) (count : ℕ) (s s' : Option ByteStream) (t t' : Option Told) → GoesOn t t' → SharesInTree Same (source_of leg) (target_of leg) phrase phrase s s' t t' → Sees (CanCarry leg) count t
+pub leg_shares : HaveOneAnswer → PlansTell → WalksStay → (leg : Leg) (count : ℕ) (s s' : Option ByteStream) (t t' : Option Told) → GoesOn t t' → SharesInTree Same (source_of leg) (target_of leg) moving_folder phrase phrase s s' t t' → Sees (CanCarry leg) count t
     → SharesPlace (target_of leg) t t' s s' count
-leg_shares one plans walks leg count s s' (Some a) (Some b) goes shares sees = one_shares one plans walks leg sees.seed count a (subst (CanCarry leg sees.seed count) sees.seen sees.shown) b s s' shares
+leg_shares one plans walks leg count s s' (Some a) (Some b) goes shares sees = one_shares one plans walks leg sees.seed count a (subst (CanCarry leg sees.seed count) sees.seen sees.shown) b goes s s' shares
 leg_shares one plans walks leg count s s' None t' goes shares sees = absurd sees.seen
 leg_shares one plans walks leg count s s' (Some a) None goes shares sees = absurd goes

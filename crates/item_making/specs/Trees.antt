@@ -12,7 +12,7 @@ use Rattle.vault_spec.specs.Format.{Format}
 use Rattle.vault_spec.specs.Making.{NewItem, NewDirectory, NewFile}
 use Rattle.vault_spec.specs.Opens.{Opened, Directory, Content}
 use Rattle.vault_spec.specs.Staying.{LoadsAlike}
-use Rattle.vault_spec.specs.Tidy.{IsTidy}
+use Rattle.vault_spec.specs.Tidy.{StaysTidy}
 
 -- the view shows a vault in good order at the root: nothing is found in it, and it is orderly
 pub record ShowsVault (f : Format) (root : Path) (v : View) : Type 0 where
@@ -25,10 +25,10 @@ pub record KeepsVault (f : Format) (root : Path) (v w : View) : Type 0 where
   pub loads : LoadsAlike (under root v) (under root w)
   pub good : ShowsVault f root w
 
--- A vault stays in good order, and each passphrase opens it as it did. A tidy one stays tidy.
+-- A vault stays in good order, nothing is left over in it, and each passphrase opens it as it did.
 pub record StaysGood (f : Format) (v w : View) : Type 0 where
   pub clean : IsClean f w
-  pub tidy : IsTidy f v → IsTidy f w
+  pub tidy : StaysTidy f v w
   pub orderly : IsOrderly f w
   pub loads : LoadsAlike v w
 

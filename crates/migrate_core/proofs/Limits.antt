@@ -49,7 +49,7 @@ use Rattle.migrate_core.specs.Causes.{StopsLater}
 use Rattle.migrate_core.specs.Copying.{CopiesAll, HasCopied, MayBegin, StayGood}
 use Rattle.migration_spec.specs.Guard.{tree_at}
 use Rattle.migrate_core.specs.Faults.{of_match}
-use Rattle.migrate_core.specs.Sharing.{IsOfTaken, SharesInTree, SharesWhereTidy}
+use Rattle.migrate_core.specs.Sharing.{IsOfTaken, SharesInTree, SharesSeen}
 use Rattle.migrate_core.specs.Limits.{StopsElsewhere, StopsFor, EndsBy, HasSmallContents, IsContentAt, IsCut, IsLonger, IsOfLimit, IsSmall, PassesAsTold, PassesInTree, PassesLimit, content_in}
 use Rattle.migrate_core.specs.Sides.{IsMappedWalk}
 use Rattle.migrate_core.specs.declared.fault.MoveFault.{MoveFault}
@@ -367,12 +367,12 @@ limit_in_tree P Q rule from to pass pass' source target t u (Err fault) at_from 
       passes = λ v is. subst₂ (λ p q. PassesLimit rule (opened_in p source.vault) (opened_in q target.vault) v at) at_from at_to (passes v is);
     }) ends.0
 
-pub shared_in_tree : {T : Type 0} (P : Type 0) (rule : NameMap) (from to : Path) (pass pass' : List ℕ) (source target : OpenedVault) (s s' : Option ByteStream) (t u : Option Told) (result : Result T MoveFault) → source.root ≡ from → target.root ≡ to
+pub shared_in_tree : {T : Type 0} (P : Type 0) (rule : NameMap) (from to work : Path) (pass pass' : List ℕ) (source target : OpenedVault) (s s' : Option ByteStream) (t u : Option Told) (result : Result T MoveFault) → source.root ≡ from → target.root ≡ to
     → IfSeen t (λ v. IsVault (under from v) pass source.vault) → IfSeen t (λ v. IsVault (under to v) pass' target.vault)
-    → EndsBy P (SharesWhereTidy rule source target s s' t u) rule source target u result → IfErr result (IsOfTaken (SharesInTree rule from to pass pass' s s' t u))
-shared_in_tree P rule from to pass pass' source target s s' t u (Ok value) at_from at_to opens opens_to ends = tt
-shared_in_tree P rule from to pass pass' source target s s' t u (Err fault) at_from at_to opens opens_to ends =
-    taken_more (SharesWhereTidy rule source target s s' t u) (SharesInTree rule from to pass pass' s s' t u) fault (share_in_tree rule from to pass pass' source target s s' t u at_from at_to opens opens_to) ends.1
+    → EndsBy P (SharesSeen rule source target work s s' t u) rule source target u result → IfErr result (IsOfTaken (SharesInTree rule from to work pass pass' s s' t u))
+shared_in_tree P rule from to work pass pass' source target s s' t u (Ok value) at_from at_to opens opens_to ends = tt
+shared_in_tree P rule from to work pass pass' source target s s' t u (Err fault) at_from at_to opens opens_to ends =
+    taken_more (SharesSeen rule source target work s s' t u) (SharesInTree rule from to work pass pass' s s' t u) fault (share_in_tree rule from to work pass pass' source target s s' t u at_from at_to opens opens_to) ends.1
 
 -- what is seen at first is seen where the vaults are opened
 pub in_tree_before : (rule : NameMap) (from to : Path) (pass pass' : List ℕ) (t0 t u : Option Told) → IfSeen t0 (λ v. IsSeen t v) → (at : Path) → PassesInTree rule from to pass pass' t u at → PassesInTree rule from to pass pass' t0 u at

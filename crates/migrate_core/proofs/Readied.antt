@@ -1,6 +1,6 @@
 -- The stage is made ready, and perhaps a journal written, before items are placed: neither vault changes, and what the calls behind tell
 -- holds of the whole.
-use Rattle.std.proofs.Common.{◌≡◌, List, Option, Ok, IfErr, Contains}
+use Rattle.std.proofs.Common.{◌≡◌, List, [], Option, Ok, IfErr, Contains, sym, subst}
 use Rattle.folder_spec.specs.Event.{Told}
 use Rattle.folder_spec.specs.Region.{apart_from_both}
 use Rattle.folder_spec.specs.Path.{Path}
@@ -9,8 +9,12 @@ use Rattle.folder_spec.specs.View.{View}
 use Rattle.folder_spec.specs.Apart.{AreSeparate}
 use Rattle.migration_spec.proofs.Tellings.{AreSound, seen_then}
 use Rattle.plain_tree.specs.declared.name_map.NameMap.{NameMap}
+use Rattle.port_model.specs.Draws.{ByteStream, Draws}
 use Rattle.vault_spec.specs.Opened.{OpenedVault}
 use Rattle.vault_spec.specs.Plan.{Planned}
+use Rattle.vault_spec.specs.Staying.{LoadsAlike}
+use Rattle.vault_spec.specs.Tidy.{StaysTidy}
+use Rattle.vault_spec.specs.Vault.{format_of}
 use Rattle.work_folder.specs.Looking as work
 use Rattle.work_folder.specs.Changing.{ChangesAt}
 use Rattle.work_folder.specs.Entering.{IsLeftOver, IsWorkOrStage}
@@ -21,12 +25,14 @@ use Rattle.migrate_core.proofs.Copyings.{copied_as}
 use Rattle.migrate_core.proofs.Limits.{good_copies}
 use Rattle.migrate_core.proofs.Movings.{mapped_walk, moves_to, source_stays, turned_over}
 use Rattle.migrate_core.proofs.Stopping.{if_stops_before, seen_stops}
+use Rattle.migrate_core.proofs.Sharing.{filled_as, shares_before}
 use Rattle.migrate_core.proofs.WorkFolders.{begun_moves}
-use Rattle.migrate_core.proofs.Writings.{Kept}
+use Rattle.migrate_core.proofs.Writings.{Compose, Kept}
 use Rattle.migrate_core.proofs.SourcePlaces.{kept_by, lacked_is, source_beside_at}
 use Rattle.migrate_core.specs.Causes.{Answer, Moves, StopsSeen, Unless}
 use Rattle.migrate_core.specs.Copying.{CopiesAll, HasCopied, BothHaveOwnFolders, MayBegin, StayGood}
 use Rattle.migrate_core.specs.Moving.{MovesOnly}
+use Rattle.migrate_core.specs.Sharing.{IsFilled, SharesFrom}
 use Rattle.migrate_core.specs.Sides.{AreItemsToMove}
 use Rattle.migrate_core.specs.Written.{lacked}
 
@@ -49,6 +55,16 @@ module _ (rule : NameMap) (from to : OpenedVault) (through : Path) (own mapped t
 
   pub target_is : (v w : View) → IsSeen t v → IsSeen u w → under to.root w ≡ under to.root v
   target_is = source_stays to.root from.root through t u (turned_over from.root to.root through readied.separate) readied.sound readied.away
+
+  -- what shares its place then does so from the start
+  pub readied_shares : (w : Option Told) (s s' : Option ByteStream) → Compose → Draws s s [] → SharesFrom (IsFilled rule from to there) to through mapped s s' u w → SharesFrom (IsFilled rule from to there) to through mapped s s' t w
+  readied_shares w s s' composed none =
+      shares_before (IsFilled rule from to there) (IsFilled rule from to there) to through mapped mapped s s s' t u w (seen_then _ t u readied.moves)
+      (λ v x is_v is_x. filled_as rule from to there v x (source_is v x is_v is_x) (target_is v x is_v is_x))
+      (λ v x is_v is_x filled. (
+        subst (LoadsAlike (under to.root v)) (sym (target_is v x is_v is_x)) (λ pass vault opens. opens),
+        subst (StaysTidy (format_of to.vault) (under to.root v)) (sym (target_is v x is_v is_x)) (λ at is. is),
+      )) (λ item among. among) composed (λ v is. ([], none))
 
   -- the files of some of the items stay
   pub items_kept : (items : List Planned) → ((item : Planned) → Contains items item → Contains mapped item) → AreItemsToMove rule t from own mapped → Kept items t u

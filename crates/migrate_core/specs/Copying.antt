@@ -13,7 +13,7 @@ use Rattle.vault_spec.specs.Format.{Directory}
 use Rattle.vault_spec.specs.Opens.{NoItem}
 use Rattle.vault_spec.specs.Plan.{Planned}
 use Rattle.vault_spec.specs.Staying.{LoadsAlike}
-use Rattle.vault_spec.specs.Tidy.{IsTidy}
+use Rattle.vault_spec.specs.Tidy.{StaysTidy}
 use Rattle.vault_spec.specs.Vault.{format_of}
 use Rattle.vault_walk.specs.Surveyed.{IsWithin}
 use Rattle.migration_spec.specs.Guard.{tree_at}
@@ -43,14 +43,14 @@ pub record HasCopied (rule : NameMap) (from to : OpenedVault) (items : List Plan
 abbrev pub Enters : OpenedVault → Planned → View → Type 0
 Enters to item v = (front : plain.Path) (name : List ℕ) → item.path ≡ front ++ name ∷ [] → (dir : Directory) × (enter (format_of to.vault) (under to.root v) front ≡ Ok dir)
 
--- from the one view to the other the target gained the item and no other, and lost none; where it was tidy it is so still; and
--- each passphrase opens it as it did
+-- from the one view to the other the target gained the item and no other, and lost none; nothing is left over in it; and each passphrase
+-- opens it as it did
 pub record Copies (rule : NameMap) (from to : OpenedVault) (item : Planned) (v w : View) : Type 0 where
   pub copying : IsCopying rule from to w
   pub has : HasItem to w item
   pub keeps : (path : plain.Path) → tree_at to v path ≢ NoItem → tree_at to w path ≢ NoItem
   pub gains : (path : plain.Path) → tree_at to w path ≢ NoItem → (path ≡ item.path) ⊎ (tree_at to v path ≢ NoItem)
-  pub tidy : IsTidy (format_of to.vault) (under to.root v) → IsTidy (format_of to.vault) (under to.root w)
+  pub tidy : StaysTidy (format_of to.vault) (under to.root v) (under to.root w)
   pub loads : LoadsAlike (under to.root v) (under to.root w)
 
 -- it does so, where it was being copied into

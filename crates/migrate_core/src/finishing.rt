@@ -94,7 +94,7 @@ pub(crate) fn go_on<F: Folder, R: Randoms>(
     ensures blamed { IfErr result (Blamed is_of_apart (CountRose (F.faults folder.old) (F.faults folder.new)) (CountRose (R.faults random.old) (R.faults random.new))) }
     ensures drew { DrewBy result (R.left random.old) (R.left random.new) }
     ensures moving { IfErr result (StopsSeen (HasCopied sides.now.names sides.now.source sides.now.target there.now) (F.told folder.old) sides.now.source items.now.mapped.items) }
-    ensures ends { EndsBy (CopiesAll sides.now.names sides.now.source sides.now.target there.now items.now.mapped.items (F.told folder.old) (F.told folder.new)) (SharesFrom (IsFilled sides.now.names sides.now.source sides.now.target there.now) sides.now.target items.now.mapped.items (R.left random.old) (R.left random.new) (F.told folder.old) (F.told folder.new)) sides.now.names sides.now.source sides.now.target (F.told folder.new) result }
+    ensures ends { EndsBy (CopiesAll sides.now.names sides.now.source sides.now.target there.now items.now.mapped.items (F.told folder.old) (F.told folder.new)) (SharesFrom (IsFilled sides.now.names sides.now.source sides.now.target there.now) sides.now.target work.now items.now.mapped.items (R.left random.old) (R.left random.new) (F.told folder.old) (F.told folder.new)) sides.now.names sides.now.source sides.now.target (F.told folder.new) result }
     ensures written { IsOrdered there.now → WritesBy result sides.now.source sides.now.target (lacked there.now items.now.mapped.items) (done_texts journal) (R.left random.old) (R.left random.new) (F.told folder.old) (F.told folder.new) }
 {
     draws_compose();

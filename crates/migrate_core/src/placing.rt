@@ -23,7 +23,7 @@ ghost use Rattle.migrate_core.specs.Limits.{StopsElsewhere, StopsFor};
 ghost use Rattle.migrate_core.specs.Moved.{is_there, lacking};
 ghost use Rattle.migrate_core.specs.Moving.{MovesBeside};
 ghost use Rattle.migrate_core.specs.Written.{WritesBy, lacked};
-ghost use Rattle.migrate_core.specs.Sharing.{IsFilled, Lacks, SharesFrom};
+ghost use Rattle.migrate_core.specs.Sharing.{IsFilled, Lacks, LacksOther, SharesFrom};
 ghost use Rattle.migrate_core.specs.Sides.{AllowsEach, AllowsLast, IsItemOf, IsMappedWalk, StandAll, StandsIn, new_journal};
 ghost use Rattle.folder_spec.specs.Apart.{AreSeparate};
 
@@ -100,7 +100,7 @@ pub(crate) fn place_missing<F: Folder, R: Randoms>(
     ensures random { R.faults random.old ≤ R.faults random.new }
     ensures blamed { IfErr result (Blamed is_of_apart (CountRose (F.faults folder.old) (F.faults folder.new)) (CountRose (R.faults random.old) (R.faults random.new))) }
     ensures drew { DrewBy result (R.left random.old) (R.left random.new) }
-    ensures stops { IfErr result (StopsFor (SharesFrom (IsFilled sides.now.names sides.now.source sides.now.target there.now) sides.now.target items.now (R.left random.old) (R.left random.new) (F.told folder.old) (F.told folder.new))) }
+    ensures stops { IfErr result (StopsFor (SharesFrom (IsFilled sides.now.names sides.now.source sides.now.target there.now) sides.now.target work.now items.now (R.left random.old) (R.left random.new) (F.told folder.old) (F.told folder.new))) }
     ensures copies { IfOk result (λ placed. CopiesAll sides.now.names sides.now.source sides.now.target there.now items.now (F.told folder.old) (F.told folder.new)) }
     ensures moving { IfErr result (StopsSeen (HasCopied sides.now.names sides.now.source sides.now.target there.now) (F.told folder.old) sides.now.source items.now) }
     ensures written { IsOrdered there.now → WritesBy result sides.now.source sides.now.target (lacked there.now items.now) [] (R.left random.old) (R.left random.new) (F.told folder.old) (F.told folder.new) }
@@ -168,7 +168,7 @@ fn place_missing_one<F: Folder, R: Randoms>(
     ensures random { R.faults random.old ≤ R.faults random.new }
     ensures blamed { IfErr result (Blamed is_of_apart (CountRose (F.faults folder.old) (F.faults folder.new)) (CountRose (R.faults random.old) (R.faults random.new))) }
     ensures drew { DrewBy result (R.left random.old) (R.left random.new) }
-    ensures stops { IfErr result (StopsFor (SharesFrom (Lacks sides.now.names sides.now.source sides.now.target item.now) sides.now.target (item.now ∷ []) (R.left random.old) (R.left random.new) (F.told folder.old) (F.told folder.new))) }
+    ensures stops { IfErr result (StopsFor (SharesFrom (LacksOther sides.now.names sides.now.source sides.now.target there.now item.now) sides.now.target work.now (item.now ∷ []) (R.left random.old) (R.left random.new) (F.told folder.old) (F.told folder.new))) }
     ensures moving { IfErr result (StopsSeen (Enters sides.now.target item.now) (F.told folder.old) sides.now.source (item.now ∷ [])) }
     ensures written { IsOrdered there.now → WritesBy result sides.now.source sides.now.target (lacked there.now (item.now ∷ [])) [] (R.left random.old) (R.left random.new) (F.told folder.old) (F.told folder.new) }
 {
@@ -213,7 +213,7 @@ fn place<F: Folder, R: Randoms>(
     ensures random { R.faults random.old ≤ R.faults random.new }
     ensures blamed { IfErr result (Blamed is_of_apart (CountRose (F.faults folder.old) (F.faults folder.new)) (CountRose (R.faults random.old) (R.faults random.new))) }
     ensures drew { DrewBy result (R.left random.old) (R.left random.new) }
-    ensures stops { IfErr result (StopsFor (SharesFrom (Lacks sides.now.names sides.now.source sides.now.target item.now) sides.now.target (item.now ∷ []) (R.left random.old) (R.left random.new) (F.told folder.old) (F.told folder.new))) }
+    ensures stops { IfErr result (StopsFor (SharesFrom (Lacks sides.now.names sides.now.source sides.now.target item.now) sides.now.target work.now (item.now ∷ []) (R.left random.old) (R.left random.new) (F.told folder.old) (F.told folder.new))) }
     ensures moving { IfErr result (StopsSeen (Enters sides.now.target item.now) (F.told folder.old) sides.now.source (item.now ∷ [])) }
     ensures written { WritesBy result sides.now.source sides.now.target (item.now ∷ []) [] (R.left random.old) (R.left random.new) (F.told folder.old) (F.told folder.new) }
 {
@@ -264,7 +264,7 @@ fn place_content<F: Folder, R: Randoms>(
     ensures random { R.faults random.old ≤ R.faults random.new }
     ensures blamed { IfErr result (Blamed is_of_apart (CountRose (F.faults folder.old) (F.faults folder.new)) (CountRose (R.faults random.old) (R.faults random.new))) }
     ensures drew { DrewBy result (R.left random.old) (R.left random.new) }
-    ensures stops { IfErr result (StopsFor (SharesFrom (Lacks sides.now.names sides.now.source sides.now.target item.now) sides.now.target (item.now ∷ []) (R.left random.old) (R.left random.new) (F.told folder.old) (F.told folder.new))) }
+    ensures stops { IfErr result (StopsFor (SharesFrom (Lacks sides.now.names sides.now.source sides.now.target item.now) sides.now.target work.now (item.now ∷ []) (R.left random.old) (R.left random.new) (F.told folder.old) (F.told folder.new))) }
     ensures moving { IfErr result (StopsSeen (Enters sides.now.target item.now) (F.told folder.old) sides.now.source (item.now ∷ [])) }
     ensures written { WritesBy result sides.now.source sides.now.target (item.now ∷ []) [] (R.left random.old) (R.left random.new) (F.told folder.old) (F.told folder.new) }
 {

@@ -21,6 +21,7 @@ ghost use Rattle.migrate_core.specs.Limits.{StopsElsewhere, EndsBy, IsOfLimit, P
 ghost use Rattle.migrate_core.specs.Moved.{HaveMappedTree, done_of, Moved, MovesTold, MovesTree, Placed, lacking};
 ghost use Rattle.migrate_core.specs.Moving.{MovesOnly};
 ghost use Rattle.migrate_core.specs.Written.{MayWriteBy, MayWriteTold, MayWriteTreeBy, WritesBeside, WritesBy, done_texts, lacked};
+ghost use Rattle.migrate_core.specs.Sharing.{IsFilled, IsOfTaken, SharesAsTold, SharesFrom, SharesInTree, SharesSeen};
 ghost use Rattle.migrate_core.specs.Sides.{AllowsEach, AreItemsToMove, AreTold, IsInUse, IsMappedWalk};
 ghost use Rattle.migration_sides.specs.Lasting.{Lasts};
 ghost use Rattle.migration_sides.specs.Sides.{IsWalked};
@@ -81,6 +82,7 @@ pub fn resume<F: Folder, R: Randoms>(
     ensures undrawn { Draws (R.left random.old) (R.left random.new) [] ⊎ IfSeen (F.told folder.old) (λ v. IfErr result IsOfPlacing × PassesResume work.now source_pass.now target_pass.now v) }
     ensures completes { (g : Migration) → IfSeen (F.told folder.old) (λ v. g.work ≡ work.now → AreOpenedBy g source_pass.now target_pass.now v → CanResume g v → IfErr result IsOfChance) }
     ensures too_long { IfSeen (F.told folder.old) (λ v. IfErr result (IsOfLimit (PassesAsTold work.now source_pass.now target_pass.now (F.told folder.old) (F.told folder.new) v))) }
+    ensures shared { IfSeen (F.told folder.old) (λ v. IfErr result (IsOfTaken (SharesAsTold work.now source_pass.now target_pass.now (R.left random.old) (R.left random.new) (F.told folder.old) (F.told folder.new) v))) }
 {
     draws_compose();
     what_can_resume_is_done();
@@ -112,6 +114,7 @@ fn resume_settled<F: Folder, R: Randoms>(
     ensures drew { DrewBy result (R.left random.old) (R.left random.new) }
     ensures cause { IfSeen (F.told folder.old) (λ v. Unless result (Resumes work.now source_pass.now target_pass.now v result)) }
     ensures too_long { IfSeen (F.told folder.old) (λ v. IfErr result (IsOfLimit (PassesAsTold work.now source_pass.now target_pass.now (F.told folder.old) (F.told folder.new) v))) }
+    ensures shared { IfSeen (F.told folder.old) (λ v. IfErr result (IsOfTaken (SharesAsTold work.now source_pass.now target_pass.now (R.left random.old) (R.left random.new) (F.told folder.old) (F.told folder.new) v))) }
     ensures written { IfSeen (F.told folder.old) (λ v. MayWriteTold result work.now source_pass.now target_pass.now (R.left random.old) (R.left random.new) (F.told folder.old) (F.told folder.new) v) }
     ensures tested { (F.told folder.new ≡ F.told folder.old) ⊎ IfSeen (F.told folder.old) (λ v. IfErr result IsOfPlacing × PassesResume work.now source_pass.now target_pass.now v) }
     ensures undrawn { Draws (R.left random.old) (R.left random.new) [] ⊎ IfSeen (F.told folder.old) (λ v. IfErr result IsOfPlacing × PassesResume work.now source_pass.now target_pass.now v) }
@@ -168,6 +171,7 @@ fn resume_told<F: Folder, R: Randoms>(
     ensures drew { DrewBy result (R.left random.old) (R.left random.new) }
     ensures cause { IfSeen (F.told folder.old) (λ v. Unless result (ResumesTold work.now source_pass.now target_pass.now v journal result)) }
     ensures too_long { IfErr result (IsOfLimit (PassesInTree journal.names journal.source journal.target source_pass.now target_pass.now (F.told folder.old) (F.told folder.new))) }
+    ensures shared { IfErr result (IsOfTaken (SharesInTree journal.names journal.source journal.target work.now source_pass.now target_pass.now (R.left random.old) (R.left random.new) (F.told folder.old) (F.told folder.new))) }
     ensures written { IfSeen (F.told folder.old) (λ v. MayWriteTreeBy (λ items. done_texts journal) result journal.names journal.source journal.target work.now source_pass.now target_pass.now (R.left random.old) (R.left random.new) (F.told folder.old) (F.told folder.new)) }
     ensures tested { (F.told folder.new ≡ F.told folder.old) ⊎ IfSeen (F.told folder.old) (λ v. IfErr result IsOfPlacing × PassesTold work.now source_pass.now target_pass.now journal v) }
     ensures undrawn { Draws (R.left random.old) (R.left random.new) [] ⊎ IfSeen (F.told folder.old) (λ v. IfErr result IsOfPlacing × PassesTold work.now source_pass.now target_pass.now journal v) }
@@ -236,7 +240,7 @@ fn resume_with<F: Folder, R: Randoms>(
     ensures blamed { IfErr result (Blamed is_of_resume (CountRose (F.faults folder.old) (F.faults folder.new)) (CountRose (R.faults random.old) (R.faults random.new))) }
     ensures drew { DrewBy result (R.left random.old) (R.left random.new) }
     ensures cause { IfSeen (F.told folder.old) (λ v. Unless result (ResumesWith sides.now.source sides.now.target work.now journal v result)) }
-    ensures ends { EndsBy (StayGood sides.now.source sides.now.target (F.told folder.old) (F.told folder.new)) (Unit {0}) sides.now.names sides.now.source sides.now.target (F.told folder.new) result }
+    ensures ends { EndsBy (StayGood sides.now.source sides.now.target (F.told folder.old) (F.told folder.new)) (SharesSeen sides.now.names sides.now.source sides.now.target work.now (R.left random.old) (R.left random.new) (F.told folder.old) (F.told folder.new)) sides.now.names sides.now.source sides.now.target (F.told folder.new) result }
     ensures written { IfSeen (F.told folder.old) (λ v. MayWriteBy (λ items. done_texts journal) result journal.names sides.now.source sides.now.target work.now (R.left random.old) (R.left random.new) (F.told folder.old) (F.told folder.new)) }
     ensures tested { (F.told folder.new ≡ F.told folder.old) ⊎ IfSeen (F.told folder.old) (λ v. IfErr result IsOfPlacing × TestsToResume sides.now.source sides.now.target journal v all_pass (Ok tt)) }
     ensures undrawn { Draws (R.left random.old) (R.left random.new) [] ⊎ IfSeen (F.told folder.old) (λ v. IfErr result IsOfPlacing × TestsToResume sides.now.source sides.now.target journal v all_pass (Ok tt)) }
@@ -368,7 +372,7 @@ fn place_rest<F: Folder, R: Randoms>(
     ensures blamed { IfErr result (Blamed is_of_resume (CountRose (F.faults folder.old) (F.faults folder.new)) (CountRose (R.faults random.old) (R.faults random.new))) }
     ensures drew { DrewBy result (R.left random.old) (R.left random.new) }
     ensures cause { IfSeen (F.told folder.old) (λ v. Unless result (Moves (Empties v work.now) sides.now.source sides.now.target v items.now.mapped.items result)) }
-    ensures ends { EndsBy (StayGood sides.now.source sides.now.target (F.told folder.old) (F.told folder.new)) (Unit {0}) sides.now.names sides.now.source sides.now.target (F.told folder.new) result }
+    ensures ends { EndsBy (StayGood sides.now.source sides.now.target (F.told folder.old) (F.told folder.new)) (SharesFrom (IsFilled sides.now.names sides.now.source sides.now.target target.now.items) sides.now.target work.now items.now.mapped.items (R.left random.old) (R.left random.new) (F.told folder.old) (F.told folder.new)) sides.now.names sides.now.source sides.now.target (F.told folder.new) result }
     ensures unready { WritesBeside sides.now.target.root (λ file. ⊥) (F.told folder.old) (F.told folder.new) ⊎ IfSeen (F.told folder.old) (λ v. Empties v work.now (Ok tt)) }
     ensures written { IfSeen (F.told folder.old) (λ v. WritesBy result sides.now.source sides.now.target (lacked target.now.items items.now.mapped.items) (done_texts journal) (R.left random.old) (R.left random.new) (F.told folder.old) (F.told folder.new)) }
 {

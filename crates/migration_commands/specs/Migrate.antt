@@ -12,6 +12,7 @@ use Rattle.migrate_core.specs.Lasting.{BringsJournal, Finishes}
 use Rattle.migrate_core.specs.Limits.{IsOfLimit, PassesInTree}
 use Rattle.migrate_core.specs.Moved.{IsTidyWork, MovesTree}
 use Rattle.migrate_core.specs.Moving.{MovesOnly}
+use Rattle.migrate_core.specs.Sharing.{IsOfTaken, SharesInTree}
 use Rattle.migrate_core.specs.Sides.{IsAsked}
 use Rattle.migrate_core.specs.Written.{MayWriteTree}
 use Rattle.migrate_core.specs.declared.fault.MoveFault.{MoveFault}
@@ -79,12 +80,13 @@ IsRootOf moving fault root = root ≡ root_of moving fault
 abbrev pub IsCaused : Moving → View → List ℕ → List ℕ → Outcome → Type 0
 IsCaused moving v source_pass target_pass outcome = Unless outcome (Begins moving.names moving.source moving.target moving.work source_pass target_pass v outcome)
 
--- What it draws and writes. Where it answers that a compared content passes the limit, it does so. That all is done is said only while the
--- target has the mapped tree of the source. And nothing is changed and no byte drawn unless all its tests pass, of which none is the answer
--- then.
+-- What it draws and writes. Where it answers that a compared content passes the limit, it does so; where a place is taken, an item of the
+-- source shares it. That all is done is said only while the target has the mapped tree of the source. And nothing is changed and no byte drawn
+-- unless all its tests pass, of which none is the answer then.
 pub record IsWritten (moving : Moving) (told told' : Option Told) (stream stream' : Option ByteStream) (v : View) (source_pass target_pass : List ℕ) (outcome : Outcome) : Type 0 where
   pub writes : MayWriteTree outcome moving.names moving.source moving.target moving.work source_pass target_pass stream stream' told told'
   pub too_long : IfErr outcome (IsOfLimit (PassesInTree moving.names moving.source moving.target source_pass target_pass told told'))
+  pub shared : IfErr outcome (IsOfTaken (SharesInTree moving.names moving.source moving.target moving.work source_pass target_pass stream stream' told told'))
   pub tested : ChangesNothing told told' ⊎ (IfErr outcome IsOfPlacing × PassesBegin moving.names moving.source moving.target moving.work source_pass target_pass v)
   pub journal : BringsJournal moving.names moving.source moving.target moving.work source_pass target_pass told told' v
   pub undrawn : Draws stream stream' [] ⊎ (IfErr outcome IsOfPlacing × PassesBegin moving.names moving.source moving.target moving.work source_pass target_pass v)

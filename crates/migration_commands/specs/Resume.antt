@@ -13,6 +13,7 @@ use Rattle.migrate_core.specs.Lasting.{Clears, Finishes, HaveToldTrees, KeepsEac
 use Rattle.migrate_core.specs.Limits.{IsOfLimit, PassesAsTold}
 use Rattle.migrate_core.specs.Moved.{MovesTold}
 use Rattle.migrate_core.specs.Moving.{MovesOnly}
+use Rattle.migrate_core.specs.Sharing.{IsOfTaken, SharesAsTold}
 use Rattle.migrate_core.specs.Written.{MayWriteTold}
 use Rattle.migrate_core.specs.declared.fault.MoveFault.{MoveFault}
 use Rattle.migrate_core.specs.declared.fault.MoveFault.TheVariants.{Load}
@@ -81,11 +82,12 @@ unopened fault = None
 abbrev pub IsCaused : Resuming → View → List ℕ → List ℕ → Outcome → Type 0
 IsCaused resuming v source_pass target_pass outcome = Unless outcome (causes.Resumes resuming.work source_pass target_pass v outcome)
 
--- What it draws and writes. Where it answers that a compared content passes the limit, it does so; and nothing is changed and no byte drawn
--- unless all its tests pass, of which none is the answer then.
+-- What it draws and writes. Where it answers that a compared content passes the limit, it does so; where a place is taken, an item of the
+-- source shares it; and nothing is changed and no byte drawn unless all its tests pass, of which none is the answer then.
 pub record IsWritten (resuming : Resuming) (told told' : Option Told) (stream stream' : Option ByteStream) (v : View) (source_pass target_pass : List ℕ) (outcome : Outcome) : Type 0 where
   pub writes : MayWriteTold outcome resuming.work source_pass target_pass stream stream' told told' v
   pub too_long : IfErr outcome (IsOfLimit (PassesAsTold resuming.work source_pass target_pass told told' v))
+  pub shared : IfErr outcome (IsOfTaken (SharesAsTold resuming.work source_pass target_pass stream stream' told told' v))
   pub tested : ChangesNothing told told' ⊎ (IfErr outcome IsOfPlacing × PassesResume resuming.work source_pass target_pass v)
   pub undrawn : Draws stream stream' [] ⊎ (IfErr outcome IsOfPlacing × PassesResume resuming.work source_pass target_pass v)
 

@@ -1,5 +1,5 @@
--- In a clean and tidy Cryptomator vault an item's own place is free.
-use Rattle.std.proofs.Common.{◌≡◌, ◌≢◌, ◌⊎◌, ℕ, ◌+◌, ◌*◌, ◌/◌, Bool, true, false, ◌||◌, List, [], cond, refl, sym, ap, ◌∙◌, inl, inr, None, length, codes, arith, bytes_eq, drop}
+-- In a clean Cryptomator vault an item's own place is free, but where something is left over.
+use Rattle.std.proofs.Common.{◌≡◌, ◌≢◌, ◌⊎◌, ℕ, ◌+◌, ◌*◌, ◌/◌, Bool, true, false, ◌||◌, List, [], cond, refl, sym, ap, ◌∙◌, inl, inr, subst, Option, Some, None, length, codes, arith, bytes_eq, drop}
 use Rattle.std.specs.Option.{option_or}
 use Rattle.vault_values.specs.Id.{id_of}
 use Rattle.vault_values.specs.declared.keys.CmKeys.{CmKeys}
@@ -16,7 +16,7 @@ use Rattle.vault_spec.specs.Standing.{entry_at}
 use Rattle.vault_spec.specs.Reached.{IsReached}
 use Rattle.vault_spec.specs.Findings.{IsClean, IsLoose, IsFixed}
 use Rattle.vault_spec.specs.Making.{NewItem, NewDirectory, NewFile, taken}
-use Rattle.vault_spec.specs.Tidy.{IsTidy, OwnPlacesAreFree}
+use Rattle.vault_spec.specs.Tidy.{IsTidyAt, OwnPlacesAreFree}
 use Rattle.vault_spec.specs.Vault.{Cryptomator}
 use Rattle.vault_spec.proofs.Entries.{differ, IsShortOrLong, entry_is}
 use Rattle.vault_spec.proofs.FreePlaces.{OfNoItem, KnowsEntries, entry_free}
@@ -103,8 +103,8 @@ fixed_or_not vault v at x = by_kind (v (child at x)) refl (bytes_eq x (codes "di
     by_kind Folder is b named = inr (λ fixed. let clash : FileOf fixed.file.0 ≡ Folder = sym fixed.file.1 ∙ is in cc)
     by_kind Special is b named = inr (λ fixed. let clash : FileOf fixed.file.0 ≡ Special = sym fixed.file.1 ∙ is in cc)
 
--- no content folder is there that no directory has
-folder_free : (vault : CmVault) → CmTexts vault.keys → (v : View) (id : List ℕ) → IsClean (cm_format vault) v → IsTidy (cm_format vault) v
+-- no content folder is there that no directory has, but one that is left over
+folder_free : (vault : CmVault) → CmTexts vault.keys → (v : View) (id : List ℕ) → IsClean (cm_format vault) v → IsTidyAt (cm_format vault) v (content_folder vault.keys id)
     → ((other : Directory) → IsReached (cm_format vault) v other → other.folder ≢ content_folder vault.keys id) → v (content_folder vault.keys id) ≡ NoEntry
 folder_free vault texts v id clean tidy homed = by_kind (v (content_folder vault.keys id)) refl
   where
@@ -123,7 +123,7 @@ folder_free vault texts v id clean tidy homed = by_kind (v (content_folder vault
 
     by_kind : (there : Found) → v (content_folder vault.keys id) ≡ there → there ≡ NoEntry
     by_kind NoEntry seen = refl
-    by_kind Folder seen = absurd (tidy.folders (content_folder vault.keys id) (record { loose = loose seen; fixed = fixed seen }))
+    by_kind Folder seen = absurd (tidy.folder (record { loose = loose seen; fixed = fixed seen }))
     by_kind (FileOf bytes) seen = absurd (strange (FileOf bytes) seen refl)
     by_kind Special seen = absurd (strange Special seen refl)
 
@@ -140,8 +140,19 @@ shelf_untaken vault v id clean = by_kind (v (shelf_named (cm_folder_of vault.key
     by_kind (FileOf bytes) seen = absurd (strange (ap (cm_role (shelf_named (cm_folder_of vault.keys id))) seen))
     by_kind Special seen = absurd (strange (ap (cm_role (shelf_named (cm_folder_of vault.keys id))) seen))
 
+-- what is taken of a place alone is that
+taken_there : (p at : Path) (there : Found) → taken_at p there ≡ Some at → (at ≡ p) × (there ≢ NoEntry)
+taken_there p at NoEntry is = let never : None ≡ Some at = is in cc never
+taken_there p at Folder is = (cc is, λ z. cc z)
+taken_there p at (FileOf bytes) is = (cc is, λ z. cc z)
+taken_there p at Special is = (cc is, λ z. cc z)
+
+or_none : (o : Option Path) → option_or o None ≡ o
+or_none None = refl
+or_none (Some p) = refl
+
 pub cm_places_free : (vault : CmVault) → CmTexts vault.keys → OwnPlacesAreFree (cm_format vault)
-cm_places_free vault texts v front dir name item drawn clean tidy leads named none own = by_item item own.homed
+cm_places_free vault texts v front dir name item drawn at clean leads named none own tidy = by_item item own.homed
   where
     free : v (entry_at (cm_format vault) dir name) ≡ NoEntry
     free = entry_free (Cryptomator vault) (cm_lawful vault texts) (cm_entries vault texts) v dir name clean (front, leads) named none own.named
@@ -149,13 +160,15 @@ cm_places_free vault texts v front dir name item drawn clean tidy leads named no
     untaken : taken_entry v dir (cm_stored vault.keys vault.threshold dir.key name) ≡ None
     untaken = ap (taken_at (entry_at (cm_format vault) dir name)) free
 
-    folders_untaken : ((other : Directory) → IsReached (cm_format vault) v other → other.folder ≢ content_folder vault.keys (id_of drawn)) → taken_folders v (cm_folder_of vault.keys (id_of drawn)) ≡ None
-    folders_untaken homed =
-        ap (λ x. option_or (taken_at (content_folder vault.keys (id_of drawn)) x) (taken_unless_folder (shelf_named (cm_folder_of vault.keys (id_of drawn))) (v (shelf_named (cm_folder_of vault.keys (id_of drawn))))))
-        (folder_free vault texts v (id_of drawn) clean tidy homed)
-        ∙ shelf_untaken vault v (id_of drawn) clean
+    folders_untaken : ((other : Directory) → IsReached (cm_format vault) v other → other.folder ≢ content_folder vault.keys (id_of drawn)) → taken_folders v (cm_folder_of vault.keys (id_of drawn)) ≢ Some at
+    folders_untaken homed is =
+        let home : (at ≡ content_folder vault.keys (id_of drawn)) × (v (content_folder vault.keys (id_of drawn)) ≢ NoEntry)
+        = taken_there (content_folder vault.keys (id_of drawn)) at (v (content_folder vault.keys (id_of drawn)))
+            (sym (or_none (taken_at (content_folder vault.keys (id_of drawn)) (v (content_folder vault.keys (id_of drawn)))))
+            ∙ ap (λ o. option_or (taken_at (content_folder vault.keys (id_of drawn)) (v (content_folder vault.keys (id_of drawn)))) o) (sym (shelf_untaken vault v (id_of drawn) clean)) ∙ is) in
+        home.1 (folder_free vault texts v (id_of drawn) clean (subst (IsTidyAt (cm_format vault) v) home.0 tidy) homed)
 
     by_item : (item : NewItem) → (item ≡ NewDirectory → (other : Directory) → IsReached (cm_format vault) v other → other.folder ≢ content_folder vault.keys (id_of drawn))
-        → taken (cm_format vault) v dir name item drawn ≡ None
-    by_item NewDirectory homed = ap (λ o. option_or o (taken_folders v (cm_folder_of vault.keys (id_of drawn)))) untaken ∙ folders_untaken (homed refl)
-    by_item (NewFile content) homed = untaken
+        → taken (cm_format vault) v dir name item drawn ≢ Some at
+    by_item NewDirectory homed = λ is. folders_untaken (homed refl) (sym (ap (λ o. option_or o (taken_folders v (cm_folder_of vault.keys (id_of drawn)))) untaken) ∙ is)
+    by_item (NewFile content) homed = λ is. let never : None ≡ Some at = sym untaken ∙ is in cc never

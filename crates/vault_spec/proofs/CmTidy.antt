@@ -1,4 +1,4 @@
--- A Cryptomator vault is tidy when it is new, and stays so.
+-- A Cryptomator vault is tidy when it is new, and items that are made in it leave nothing over.
 use Rattle.std.proofs.Common.{◌≡◌, ◌⊎◌, ℕ, Bool, true, false, List, [], ◌∷◌, ◌++◌, Ok, sym, ap, ◌∙◌, inl, inr, Some, None, IsTrue, take}
 use Rattle.folder_spec.specs.Path.{Part, Path, child}
 use Rattle.folder_spec.specs.View.{Found, NoEntry, Folder, FileOf, Special, View}
@@ -13,7 +13,7 @@ use Rattle.vault_spec.specs.Standing.{Dir, entry_at, root_of, standing_in}
 use Rattle.vault_spec.specs.Reached.{Leads, IsReached}
 use Rattle.vault_spec.specs.Findings.{IsIdleName, IsIdleFolder}
 use Rattle.vault_spec.specs.Alike.{IsOrderly}
-use Rattle.vault_spec.specs.Tidy.{IsTidy, NewItemsStayTidy}
+use Rattle.vault_spec.specs.Tidy.{IsTidy, NewItemsStayTidy, StaysTidy}
 use Rattle.vault_spec.proofs.Steps.{along}
 use Rattle.vault_spec.proofs.Grafts.{reached_right}
 use Rattle.vault_spec.proofs.Places.{IsNew, new_after_side, still_leads, brought_there}
@@ -37,12 +37,12 @@ no_entry_folder vault texts v w front dir x at leads here idle =
     let clash : Expected ≡ ContentFolder = sym (entry_role vault texts v front dir x (w at) leads) ∙ ap (λ p. cm_role p (w at)) (sym here) ∙ idle.loose.folder in cc
 
 new_file_tidy : (vault : CmVault) (texts : CmTexts vault.keys) → (v : View) (front : plain.Path) (dir : Directory) (name bytes : List ℕ)
-    → IsOrderly (cm_format vault) v → IsTidy (cm_format vault) v → Leads (cm_format vault) v front dir → IsTrue (is_name name)
+    → IsOrderly (cm_format vault) v → Leads (cm_format vault) v front dir → IsTrue (is_name name)
     → taken_entry v dir (cm_stored vault.keys vault.threshold dir.key name) ≡ None
-    → IsTidy (cm_format vault) (view_after v ((cm_format vault).new_file v dir (cm_stored vault.keys vault.threshold dir.key name) bytes))
-new_file_tidy vault texts v front dir name bytes orderly tidy leads named none =
+    → StaysTidy (cm_format vault) v (view_after v ((cm_format vault).new_file v dir (cm_stored vault.keys vault.threshold dir.key name) bytes))
+new_file_tidy vault texts v front dir name bytes orderly leads named none =
     tidy_after (cm_format vault) (cm_lawful vault texts) v ((cm_format vault).new_file v dir (cm_stored vault.keys vault.threshold dir.key name) bytes)
-    ((cm_keeps vault texts).file v front dir name bytes orderly leads named none) tidy (λ at here. no_name vault w at) no_folder
+    ((cm_keeps vault texts).file v front dir name bytes orderly leads named none) (λ at here. no_name vault w at) no_folder
   where
     w : View
     w = view_after v ((cm_format vault).new_file v dir (cm_stored vault.keys vault.threshold dir.key name) bytes)
@@ -107,12 +107,12 @@ reached_then vault texts v front dir name id orderly leads named is_id none =
     new = new_at vault texts v front dir name id orderly.folders leads named none
 
 new_directory_tidy : (vault : CmVault) (texts : CmTexts vault.keys) → (v : View) (front : plain.Path) (dir : Directory) (name id : List ℕ)
-    → IsOrderly (cm_format vault) v → IsTidy (cm_format vault) v → Leads (cm_format vault) v front dir → IsTrue (is_name name) → directory_id id ≡ Some id
+    → IsOrderly (cm_format vault) v → Leads (cm_format vault) v front dir → IsTrue (is_name name) → directory_id id ≡ Some id
     → (cm_format vault).taken_for_directory v dir (cm_stored vault.keys vault.threshold dir.key name) id ≡ None
-    → IsTidy (cm_format vault) (view_after v ((cm_format vault).new_directory v dir (cm_stored vault.keys vault.threshold dir.key name) id))
-new_directory_tidy vault texts v front dir name id orderly tidy leads named is_id none =
+    → StaysTidy (cm_format vault) v (view_after v ((cm_format vault).new_directory v dir (cm_stored vault.keys vault.threshold dir.key name) id))
+new_directory_tidy vault texts v front dir name id orderly leads named is_id none =
     tidy_after (cm_format vault) (cm_lawful vault texts) v ((cm_format vault).new_directory v dir (cm_stored vault.keys vault.threshold dir.key name) id)
-    ((cm_keeps vault texts).directory v front dir name id orderly leads named is_id none) tidy (λ at here. no_name vault w at) no_folder
+    ((cm_keeps vault texts).directory v front dir name id orderly leads named is_id none) (λ at here. no_name vault w at) no_folder
   where
     w : View
     w = view_after v ((cm_format vault).new_directory v dir (cm_stored vault.keys vault.threshold dir.key name) id)
@@ -130,8 +130,8 @@ cm_items_tidy vault texts = record { file = new_file_tidy vault texts; directory
 
 -- in a new vault the one content folder is the root's
 pub cm_new_tidy : (vault : CmVault) → CmTexts vault.keys → (m w : List ℕ) → IsTidy (cm_format vault) (new_root m w (cm_folder_of vault.keys []))
-cm_new_tidy vault texts m w = record {
-  names = no_name vault (new_root m w (cm_folder_of vault.keys []));
-  folders = λ at idle. idle.loose.loose (top_of vault) ([], record { at = []; stands = (empty_root vault texts m w).root })
+cm_new_tidy vault texts m w at = record {
+  name = no_name vault (new_root m w (cm_folder_of vault.keys [])) at;
+  folder = λ idle. idle.loose.loose (top_of vault) ([], record { at = []; stands = (empty_root vault texts m w).root })
       (sym (no_content_folder m w (cm_folder_of vault.keys []) at idle.loose.folder));
 }

@@ -1,5 +1,5 @@
--- In a clean and tidy gocryptfs vault an item's own place is free.
-use Rattle.std.proofs.Common.{◌≡◌, ◌≢◌, ℕ, true, false, ◌||◌, List, [], refl, sym, ap, ◌∙◌, inl, Some, None, Option, IsTrue, is_some, codes}
+-- In a clean gocryptfs vault an item's own place is free, but where something is left over.
+use Rattle.std.proofs.Common.{◌≡◌, ◌≢◌, ℕ, Bool, true, false, ◌||◌, List, [], if◌then◌else◌, refl, sym, ap, ◌∙◌, inl, subst, Some, None, Option, IsTrue, is_some, codes, bytes_eq}
 use Rattle.std.proofs.lemmas.List.{append_cancel_right}
 use Rattle.std.specs.Option.{option_or}
 use Rattle.folder_spec.specs.Path.{Part, Path, child}
@@ -18,7 +18,7 @@ use Rattle.vault_spec.specs.Standing.{entry_at}
 use Rattle.vault_spec.specs.Reached.{Leads}
 use Rattle.vault_spec.specs.Findings.{Belongs, IsClean, IsFullTextOf}
 use Rattle.vault_spec.specs.Making.{NewItem, NewDirectory, NewFile, taken}
-use Rattle.vault_spec.specs.Tidy.{IsTidy, OwnPlacesAreFree}
+use Rattle.vault_spec.specs.Tidy.{IsTidyAt, OwnPlacesAreFree}
 use Rattle.vault_spec.specs.Vault.{Gocryptfs}
 use Rattle.vault_spec.proofs.Accounted.{accounted}
 use Rattle.vault_spec.proofs.Entries.{long_entry}
@@ -52,10 +52,11 @@ go_entries texts keys = record {
   not_fixed = λ folder key name is named. not_fixed texts folder (stored keys.names key name) (text_under texts keys key name is named);
 }
 
--- beside a free entry there is no long-name file
-full_free : (texts : GoTexts) (keys : GoKeys) (v : View) (front : plain.Path) (dir : Directory) (name : List ℕ) → IsClean (go_format keys) v → IsTidy (go_format keys) v → Leads (go_format keys) v front dir
-    → IsTrue (is_name name) → v (entry_at (go_format keys) dir name) ≡ NoEntry → is_some (stored keys.names dir.key name).full ≡ true → v (full_place dir (stored keys.names dir.key name)) ≡ NoEntry
-full_free texts keys v front dir name clean tidy leads named free long = by_kind (v (full_place dir (stored keys.names dir.key name))) refl
+-- beside a free entry there is no long-name file, but one that is left over
+full_free : (texts : GoTexts) (keys : GoKeys) (v : View) (front : plain.Path) (dir : Directory) (name : List ℕ) → IsClean (go_format keys) v → Leads (go_format keys) v front dir
+    → IsTrue (is_name name) → v (entry_at (go_format keys) dir name) ≡ NoEntry → is_some (stored keys.names dir.key name).full ≡ true → IsTidyAt (go_format keys) v (full_place dir (stored keys.names dir.key name))
+    → v (full_place dir (stored keys.names dir.key name)) ≡ NoEntry
+full_free texts keys v front dir name clean leads named free long tidy = by_kind (v (full_place dir (stored keys.names dir.key name))) refl
   where
     its_text : IsOfText (stored keys.names dir.key name)
     its_text = of_text texts keys v front dir name leads named
@@ -74,7 +75,7 @@ full_free texts keys v front dir name clean tidy leads named free long = by_kind
     wrong entry text =
         let files : full_name entry ≡ full_name (stored keys.names dir.key name).name = cc in
         let entries : entry ≡ (stored keys.names dir.key name).name = append_cancel_right entry (stored keys.names dir.key name).name (codes ".name") files in
-        tidy.names (full_place dir (stored keys.names dir.key name)) (record {
+        tidy.name (record {
           dir = dir;
           file = full_name (stored keys.names dir.key name).name;
           entry = entry;
@@ -99,23 +100,38 @@ full_free texts keys v front dir name clean tidy leads named free long = by_kind
       wrong = wrong;
     }))
 
-go_untaken : (v : View) (dir : Directory) (s : Stored) → v (child dir.folder s.name) ≡ NoEntry → (is_some s.full ≡ true → v (full_place dir s) ≡ NoEntry) → go_taken v dir s ≡ None
-go_untaken v dir s free beside =
-    ap (λ x. option_or (taken_at (child dir.folder s.name) x) (taken_unless (full_place dir s) (v (full_place dir s)) s.full)) free ∙ by_full s.full beside
+-- what is taken beside a free entry is the place of the long-name file
+taken_beside : (v : View) (dir : Directory) (s : Stored) (at : Path) → v (child dir.folder s.name) ≡ NoEntry → go_taken v dir s ≡ Some at → (at ≡ full_place dir s) × (is_some s.full ≡ true) × (v (full_place dir s) ≢ NoEntry)
+taken_beside v dir s at free is =
+    by (v (full_place dir s)) s.full
+    (sym (ap (λ x. option_or (taken_at (child dir.folder s.name) x) (taken_unless (full_place dir s) (v (full_place dir s)) s.full)) free) ∙ is)
   where
-    by_full : (full : Option (List ℕ)) → (is_some full ≡ true → v (full_place dir s) ≡ NoEntry) → taken_unless (full_place dir s) (v (full_place dir s)) full ≡ None
-    by_full None none = refl
-    by_full (Some text) none = ap (λ x. taken_unless (full_place dir s) x (Some text)) (none refl)
+    one : (p q : Path) → Some p ≡ Some q → q ≡ p
+    one p q same = cc same
+
+    by : (there : Found) (full : Option (List ℕ)) → taken_unless (full_place dir s) there full ≡ Some at → (at ≡ full_place dir s) × (is_some full ≡ true) × (there ≢ NoEntry)
+    by there None e = let never : None ≡ Some at = e in cc never
+    by NoEntry (Some text) e = let never : None ≡ Some at = e in cc never
+    by Folder (Some text) e = (one (full_place dir s) at e, refl, λ z. cc z)
+    by Special (Some text) e = (one (full_place dir s) at e, refl, λ z. cc z)
+    by (FileOf bytes) (Some text) e = (by_text (bytes_eq bytes text) e, refl, λ z. cc z)
+      where
+        by_text : (b : Bool) → (if b then None else Some (full_place dir s)) ≡ Some at → at ≡ full_place dir s
+        by_text true never = cc never
+        by_text false same = one (full_place dir s) at same
 
 pub go_places_free : GoTexts → (keys : GoKeys) → OwnPlacesAreFree (go_format keys)
-go_places_free texts keys v front dir name item drawn clean tidy leads named none own = by_item item
+go_places_free texts keys v front dir name item drawn at clean leads named none own tidy = by_item item
   where
     free : v (entry_at (go_format keys) dir name) ≡ NoEntry
     free = entry_free (Gocryptfs keys) (go_lawful texts keys) (go_entries texts keys) v dir name clean (front, leads) named none own.named
 
-    untaken : go_taken v dir (stored keys.names dir.key name) ≡ None
-    untaken = go_untaken v dir (stored keys.names dir.key name) free (full_free texts keys v front dir name clean tidy leads named free)
+    untaken : go_taken v dir (stored keys.names dir.key name) ≢ Some at
+    untaken is =
+        let beside : (at ≡ full_place dir (stored keys.names dir.key name)) × (is_some (stored keys.names dir.key name).full ≡ true) × (v (full_place dir (stored keys.names dir.key name)) ≢ NoEntry)
+        = taken_beside v dir (stored keys.names dir.key name) at free is in
+        beside.2 (full_free texts keys v front dir name clean leads named free beside.1 (subst (IsTidyAt (go_format keys) v) beside.0 tidy))
 
-    by_item : (item : NewItem) → taken (go_format keys) v dir name item drawn ≡ None
+    by_item : (item : NewItem) → taken (go_format keys) v dir name item drawn ≢ Some at
     by_item NewDirectory = untaken
     by_item (NewFile content) = untaken

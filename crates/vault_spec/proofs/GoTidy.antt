@@ -1,4 +1,4 @@
--- A gocryptfs vault is tidy when it is new, and stays so.
+-- A gocryptfs vault is tidy when it is new, and items that are made in it leave nothing over.
 use Rattle.std.proofs.Common.{◌≡◌, ◌≢◌, ◌⊎◌, ℕ, true, false, List, [], ◌∷◌, ◌++◌, refl, sym, ap, ◌∙◌, inl, inr, Some, None, Option, codes}
 use Rattle.std.proofs.lemmas.List.{append_cancel_right}
 use Rattle.folder_spec.specs.Path.{Path, child}
@@ -12,7 +12,7 @@ use Rattle.vault_spec.specs.Format.{Directory, Expected, ContentFolder}
 use Rattle.vault_spec.specs.Gocryptfs.{key_file, full_name, is_full_name, directory_key, go_format, full_edits, full_edits_at}
 use Rattle.vault_spec.specs.Standing.{entry_at}
 use Rattle.vault_spec.specs.Findings.{IsIdleName, IsIdleFolder}
-use Rattle.vault_spec.specs.Tidy.{IsTidy, NewItemsStayTidy}
+use Rattle.vault_spec.specs.Tidy.{IsTidy, NewItemsStayTidy, StaysTidy}
 use Rattle.vault_spec.proofs.PathEnds.{child-both}
 use Rattle.vault_spec.proofs.Places.{IsNew}
 use Rattle.vault_spec.proofs.StaysClean.{KeepEach}
@@ -42,10 +42,10 @@ no_folder keys w at idle = let clash : Expected ≡ ContentFolder = idle.loose.f
 
 -- after the edits of an item the long-name file has its entry
 new_tidy : (texts : GoTexts) (keys : GoKeys) (v : View) (front : plain.Path) (dir : Directory) (name : List ℕ) (e : Edit)
-    → IsNew (go_format keys) v front dir name e → e.made [] ≢ NoEntry → KeepEach (go_format keys) (go_lawful texts keys) v (full_edits v dir (stored keys.names dir.key name) ++ e ∷ []) → IsTidy (go_format keys) v
-    → IsTidy (go_format keys) (view_after v (full_edits v dir (stored keys.names dir.key name) ++ e ∷ []))
-new_tidy texts keys v front dir name e new there keep tidy =
-    tidy_after (go_format keys) (go_lawful texts keys) v (full_edits v dir (stored keys.names dir.key name) ++ e ∷ []) keep tidy no_name (λ at here. no_folder keys w at)
+    → IsNew (go_format keys) v front dir name e → e.made [] ≢ NoEntry → KeepEach (go_format keys) (go_lawful texts keys) v (full_edits v dir (stored keys.names dir.key name) ++ e ∷ [])
+    → StaysTidy (go_format keys) v (view_after v (full_edits v dir (stored keys.names dir.key name) ++ e ∷ []))
+new_tidy texts keys v front dir name e new there keep =
+    tidy_after (go_format keys) (go_lawful texts keys) v (full_edits v dir (stored keys.names dir.key name) ++ e ∷ []) keep no_name (λ at here. no_folder keys w at)
   where
     w : View
     w = view_after v (full_edits v dir (stored keys.names dir.key name) ++ e ∷ [])
@@ -67,19 +67,19 @@ new_tidy texts keys v front dir name e new there keep tidy =
 
 pub go_items_tidy : GoTexts → (keys : GoKeys) → NewItemsStayTidy (go_format keys)
 go_items_tidy texts keys = record {
-  file = λ v front dir name bytes orderly tidy leads named none.
+  file = λ v front dir name bytes orderly leads named none.
       new_tidy texts keys v front dir name (file_edit (entry_at (go_format keys) dir name) bytes)
       (is_new texts keys v front dir name (file_edit (entry_at (go_format keys) dir name) bytes) orderly.folders leads named refl none) (λ z. cc)
-      ((go_keeps texts keys).file v front dir name bytes orderly leads named none) tidy;
-  directory = λ v front dir name key orderly tidy leads named is_key none.
+      ((go_keeps texts keys).file v front dir name bytes orderly leads named none);
+  directory = λ v front dir name key orderly leads named is_key none.
       new_tidy texts keys v front dir name (folder_edit (entry_at (go_format keys) dir name) ((key_file, key) ∷ []))
       (is_new texts keys v front dir name (folder_edit (entry_at (go_format keys) dir name) ((key_file, key) ∷ [])) orderly.folders leads named refl none) (λ z. cc)
-      ((go_keeps texts keys).directory v front dir name key orderly leads named is_key none) tidy;
+      ((go_keeps texts keys).directory v front dir name key orderly leads named is_key none);
 }
 
 -- in a new vault no file is a long name's
 pub go_new_tidy : GoTexts → (keys : GoKeys) (text key : List ℕ) → directory_key key ≡ Some key → IsTidy (go_format keys) (new_root text key)
-go_new_tidy texts keys text key is_key = record { names = no_name; folders = no_folder keys (new_root text key) }
+go_new_tidy texts keys text key is_key at = record { name = no_name at; folder = no_folder keys (new_root text key) at }
   where
     no_name : (at : Path) → ¬ IsIdleName (go_format keys) (new_root text key) at
     no_name at u =

@@ -1,4 +1,4 @@
--- A tidy vault is tidy again after the edits of an item, where they bring nothing idle, and where a content is replaced.
+-- The edits of an item leave nothing over, where they bring nothing idle, and nor does a content that is replaced.
 use Rattle.std.proofs.Common.{◌≡◌, ◌≢◌, ◌⊎◌, ℕ, true, false, List, [], ◌∷◌, ◌++◌, sym, ap, ◌∙◌, inl, inr, append-nil, Some, None, Option, is_some}
 use Rattle.folder_spec.specs.Path.{Part, Path, child}
 use Rattle.folder_spec.specs.View.{NoEntry, FileOf, View}
@@ -8,7 +8,7 @@ use Rattle.vault_spec.specs.Format.{Format, Directory, Expected, ContentFolder, 
 use Rattle.vault_spec.specs.Standing.{is_file_of, holds}
 use Rattle.vault_spec.specs.Reached.{Leads}
 use Rattle.vault_spec.specs.Findings.{IsFixed, IsFullTextOf, IsIdleName, IsIdleFolder}
-use Rattle.vault_spec.specs.Tidy.{IsTidy, ReplacedContentsStayTidy}
+use Rattle.vault_spec.specs.Tidy.{ReplacedContentsStayTidy, StaysTidy}
 use Rattle.vault_spec.proofs.Lawful.{IsLawful}
 use Rattle.vault_spec.proofs.Grafts.{holds_by}
 use Rattle.vault_spec.proofs.Places.{none_or_there, brought_there}
@@ -108,11 +108,11 @@ all_back Idle f lawful back v (e ∷ edits) keep at idle = elim (all_back Idle f
   ]
 ]
 
-pub tidy_after : (f : Format) (lawful : IsLawful f) (v : View) (edits : List Edit) → KeepEach f lawful v edits → IsTidy f v
-    → ((at : Path) → IsAt edits at → ¬ IsIdleName f (view_after v edits) at) → ((at : Path) → IsAt edits at → ¬ IsIdleFolder f (view_after v edits) at) → IsTidy f (view_after v edits)
-tidy_after f lawful v edits keep tidy no_name no_folder = record {
-  names = λ at idle. elim (all_back (IsIdleName f) f lawful (idle_name_back f lawful) v edits keep at idle) [ inl before ↦ tidy.names at before | inr here ↦ no_name at here idle ];
-  folders = λ at idle. elim (all_back (IsIdleFolder f) f lawful (idle_folder_back f lawful) v edits keep at idle) [ inl before ↦ tidy.folders at before | inr here ↦ no_folder at here idle ];
+pub tidy_after : (f : Format) (lawful : IsLawful f) (v : View) (edits : List Edit) → KeepEach f lawful v edits
+    → ((at : Path) → IsAt edits at → ¬ IsIdleName f (view_after v edits) at) → ((at : Path) → IsAt edits at → ¬ IsIdleFolder f (view_after v edits) at) → StaysTidy f v (view_after v edits)
+tidy_after f lawful v edits keep no_name no_folder at tidy = record {
+  name = λ idle. elim (all_back (IsIdleName f) f lawful (idle_name_back f lawful) v edits keep at idle) [ inl before ↦ tidy.name before | inr here ↦ no_name at here idle ];
+  folder = λ idle. elim (all_back (IsIdleFolder f) f lawful (idle_folder_back f lawful) v edits keep at idle) [ inl before ↦ tidy.folder before | inr here ↦ no_folder at here idle ];
 }
 
 -- what the last edit brings is there
@@ -128,10 +128,10 @@ nothing_back f lawful v at old bytes r q none = elim (one_or_not q at) [
   | inr apart ↦ sym (replaced_elsewhere f lawful v at old bytes r q apart.0) ∙ none
 ]
 
-replaced_tidy : (f : Format) (lawful : IsLawful f) (v : View) (at : Path) (old bytes : List ℕ) → IsReplaced f lawful v at old → IsTidy f v → IsTidy f (edited v (file_edit at bytes))
-replaced_tidy f lawful v at old bytes r tidy = record {
-  names = λ q u. tidy.names q (name_back q u (replaced.led_back f lawful v at old bytes r u.reached.0 u.dir u.reached.1));
-  folders = λ q u. tidy.folders q (folder_back q u);
+replaced_tidy : (f : Format) (lawful : IsLawful f) (v : View) (at : Path) (old bytes : List ℕ) → IsReplaced f lawful v at old → StaysTidy f v (edited v (file_edit at bytes))
+replaced_tidy f lawful v at old bytes r q tidy = record {
+  name = λ u. tidy.name (name_back q u (replaced.led_back f lawful v at old bytes r u.reached.0 u.dir u.reached.1));
+  folder = λ u. tidy.folder (folder_back q u);
 }
   where
     name_back : (q : Path) → (u : IsIdleName f (edited v (file_edit at bytes)) q) → Leads f v u.reached.0 u.dir → IsIdleName f v q
@@ -165,5 +165,5 @@ replaced_tidy f lawful v at old bytes r tidy = record {
 
 -- so it is where a file stands
 pub content_tidy : (f : Format) → IsLawful f → ReplacedContentsStayTidy f
-content_tidy f lawful v p at bytes orderly stands tidy =
-    where_file_stands f lawful v p at (IsTidy f (edited v (file_edit at bytes))) orderly.folders stands (λ old r. replaced_tidy f lawful v at old bytes r tidy)
+content_tidy f lawful v p at bytes orderly stands =
+    where_file_stands f lawful v p at (StaysTidy f v (edited v (file_edit at bytes))) orderly.folders stands (λ old r. replaced_tidy f lawful v at old bytes r)

@@ -90,7 +90,7 @@ module _ (enters : Enters) (vault : OpenedVault) (laws : KeepsVaults (format_of 
     item = λ good. record {
       alone = laws.alone.directory (under vault.root (seen a.state)) front slot.dir name ((format_of vault.vault).new_key drawn) good.orderly leads named is_key free;
       clean = laws.clean.directory (under vault.root (seen a.state)) front slot.dir name ((format_of vault.vault).new_key drawn) good.orderly good.clean leads named is_key free;
-      tidy = λ tidy. laws.tidy.directory (under vault.root (seen a.state)) front slot.dir name ((format_of vault.vault).new_key drawn) good.orderly tidy leads named is_key free;
+      tidy = laws.tidy.directory (under vault.root (seen a.state)) front slot.dir name ((format_of vault.vault).new_key drawn) good.orderly leads named is_key free;
       vault = laws.stay.directory (under vault.root (seen a.state)) front slot.dir name ((format_of vault.vault).new_key drawn) good.orderly leads named is_key free;
     };
     last = laws.last.directory (under vault.root (seen a.state)) front slot.dir name ((format_of vault.vault).new_key drawn) (folders_seen vault.root a.state sound) leads named is_key free;

@@ -19,7 +19,7 @@ use Rattle.vault_read.specs.Opened.{kind_of}
 use Rattle.vault_read.specs.declared.vault.VaultKind.TheVariants as kind
 use Rattle.vault_spec.specs.Adding.{ComesAlone, StaysClean}
 use Rattle.vault_spec.specs.Staying.{StaysVault}
-use Rattle.vault_spec.specs.Tidy.{IsTidy}
+use Rattle.vault_spec.specs.Tidy.{StaysTidy}
 use Rattle.vault_spec.specs.Alike.{IsOrderly}
 use Rattle.vault_spec.specs.Anywhere.{ComesAtLast}
 use Rattle.vault_spec.specs.Cryptomator.{CmVault, cm_format, new_file_edit}
@@ -110,8 +110,8 @@ module _ (enters : Enters) (vault : OpenedVault) (laws : KeepsVaults (format_of 
       alone = subst (λ es. ComesAlone (format_of vault.vault) (under vault.root (seen a.state)) (under vault.root (seen a.state)) es (front ++ name ∷ []) (opened_file (format_of vault.vault).content (Some bytes))) makes
           (laws.alone.file (under vault.root (seen a.state)) front slot.dir name bytes good.orderly leads named free);
       clean = subst (λ es. StaysClean (format_of vault.vault) (under vault.root (seen a.state)) es) makes (laws.clean.file (under vault.root (seen a.state)) front slot.dir name bytes good.orderly good.clean leads named free);
-      tidy = λ tidy. subst (λ es. IsTidy (format_of vault.vault) (view_after (under vault.root (seen a.state)) es)) makes
-          (laws.tidy.file (under vault.root (seen a.state)) front slot.dir name bytes good.orderly tidy leads named free);
+      tidy = subst (λ es. StaysTidy (format_of vault.vault) (under vault.root (seen a.state)) (view_after (under vault.root (seen a.state)) es)) makes
+          (laws.tidy.file (under vault.root (seen a.state)) front slot.dir name bytes good.orderly leads named free);
       vault = subst (λ es. StaysVault (format_of vault.vault) (under vault.root (seen a.state)) (under vault.root (seen a.state)) es) makes
           (laws.stay.file (under vault.root (seen a.state)) front slot.dir name bytes good.orderly leads named free);
     };

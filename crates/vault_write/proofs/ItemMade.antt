@@ -23,7 +23,7 @@ use Rattle.vault_spec.specs.Making.{NewItem, draws}
 use Rattle.vault_spec.specs.Opened.{OpenedVault}
 use Rattle.vault_spec.specs.Opens.{Opened, opened}
 use Rattle.vault_spec.specs.Staying.{StaysVault}
-use Rattle.vault_spec.specs.Tidy.{IsTidy}
+use Rattle.vault_spec.specs.Tidy.{StaysTidy}
 use Rattle.folder_spec.specs.declared.FolderFault.TheVariants as folder
 use Rattle.item_making.specs.Faults.{of_folder}
 use Rattle.item_making.specs.Ending.{Ending, Whole}
@@ -69,7 +69,7 @@ all_opens f v w (e ∷ []) at item comes = comes
 all_opens f v w (e ∷ next ∷ edits) at item comes = all_opens f v (edited w e) (next ∷ edits) at item comes.1
 
 -- a vault in good order stays so
-all_stay : (f : Format) (u w : View) (edits : List Edit) (at : plain.Path) (item : Opened) → ComesAlone f u w edits at item → StaysClean f w edits → (IsTidy f u → IsTidy f (view_after w edits))
+all_stay : (f : Format) (u w : View) (edits : List Edit) (at : plain.Path) (item : Opened) → ComesAlone f u w edits at item → StaysClean f w edits → StaysTidy f u (view_after w edits)
     → StaysVault f u w edits → StaysGood f u (view_after w edits)
 all_stay f u w [] at item comes clean tidy vault = absurd comes
 all_stay f u w (e ∷ []) at item comes clean tidy vault = record { clean = clean.0; tidy = tidy; orderly = vault.0.0; loads = vault.0.1 }

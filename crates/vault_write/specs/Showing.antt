@@ -9,17 +9,17 @@ use Rattle.vault_spec.specs.Adding.{ComesAlone, StaysClean}
 use Rattle.vault_spec.specs.Staying.{StaysVault}
 use Rattle.vault_spec.specs.Format.{Format}
 use Rattle.vault_spec.specs.Opens.{Opened}
-use Rattle.vault_spec.specs.Tidy.{IsTidy}
+use Rattle.vault_spec.specs.Tidy.{StaysTidy}
 use Rattle.item_making.specs.Ending.{Ending, Whole}
 use Rattle.item_making.specs.Making.{Placing, format, path_of, is_unstaged}
 use Rattle.item_making.specs.Placing.{ShowsOldOrNewTree, ShowsNewTree}
 use Rattle.item_making.specs.Trees.{ShowsVault, opens_as}
 
--- by these edits an item comes alone to a vault, which stays clean and orderly, and is tidy after them where it was
+-- by these edits an item comes alone to a vault, which stays clean and orderly, and nothing is left over after them
 pub record MakeItem (f : Format) (u : View) (path : plain.Path) (item : Opened) (edits : List Edit) : Type 0 where
   pub alone : ComesAlone f u u edits path item
   pub clean : StaysClean f u edits
-  pub tidy : IsTidy f u → IsTidy f (view_after u edits)
+  pub tidy : StaysTidy f u (view_after u edits)
   pub vault : StaysVault f u u edits
 
 -- something comes so, where the vault as it was seen is in good order

@@ -217,9 +217,9 @@ returns-clause-shared g c =
     let t0 = g.F.Folder.told c.args.folder.now in
     let t1 = g.F.Folder.told c.settle.new.self in
     let t2 = g.F.Folder.told c.begin_settled.new.folder in
-    let region = apart_from_both c.args.work.now to in
-    if_taken (SharesInTree c.args.names from to pass pass' left left' t1 t2) (SharesInTree c.args.names from to pass pass' left left' t0 t2) c.begin_settled.result
-    (in_tree_since c.args.work.now region to c.args.names from to pass pass' left left' t0 t1 t2 (settle_moves c.args.work.now region to t0 t1 c.settle.result c.settle.ensures.changes) (settle_seen t0 t1 c.in_ok-settle.field-0 c.in_ok-settle.ensures.changes)) c.begin_settled.ensures.shared
+    let work = c.args.work.now in
+    if_taken (SharesInTree c.args.names from to work pass pass' left left' t1 t2) (SharesInTree c.args.names from to work pass pass' left left' t0 t2) c.begin_settled.result
+    (in_tree_since c.args.names from to work pass pass' left left' t0 t1 t2 (settle_seen t0 t1 c.in_ok-settle.field-0 c.in_ok-settle.ensures.changes)) c.begin_settled.ensures.shared
 
 pub returns-in_err-test_apart-clause-drew : goal.returns-in_err-test_apart-clause-drew
 returns-in_err-test_apart-clause-drew g c = drew_refused c.draws_compose.ensures.none (g.R.Randoms.left c.args.random.now) c.from_residual.result _ c.from_residual.ensures.1 (step_tested c.in_err-test_apart.field-0.0).1

@@ -28,7 +28,7 @@ use Rattle.migrate_core.specs.Written.{MayWriteBy, journal_texts}
 use Rattle.migrate_core.proofs.Limits.{limit_in_tree, none_compared, none_taken, shared_in_tree}
 use Rattle.migrate_core.specs.Copying.{StayGood}
 use Rattle.migrate_core.specs.Limits.{EndsBy, IsOfLimit, PassesInTree}
-use Rattle.migrate_core.specs.Sharing.{IsOfTaken, SharesInTree, SharesWhereTidy}
+use Rattle.migrate_core.specs.Sharing.{IsOfTaken, SharesInTree, SharesSeen}
 use Rattle.migrate_core.proofs.Drawing.{drew_refused, undrawn_on}
 use Rattle.migrate_core.proofs.beginning.begin_settled.Given.{Over}
 use Rattle.migrate_core.proofs.beginning.begin_settled.Goals as goal
@@ -108,12 +108,12 @@ returns-clause-moved g c =
     let pass' = c.args.target_pass.now in
     let same = c.load_both.ensures.told ∙ c.look.ensures.told in
     subst (λ n. IfOk c.begin_with.result (λ done. MovesTree n from to work pass pass' done told after)) loads.names
-    (tree_moved (SharesWhereTidy sides.names sides.source sides.target left left' told after) sides.names from to work pass pass' sides.source sides.target told after
+    (tree_moved (SharesSeen sides.names sides.source sides.target c.args.work.now left left' told after) sides.names from to work pass pass' sides.source sides.target told after
     c.begin_with.result loads.source loads.target (g.met.F.Folder.sound c.args.folder.now)
     (subst (λ root. MovesOnly work root told after) loads.target (subst (λ t. MovesOnly work sides.target.root t after) same c.begin_with.ensures.moves))
     (λ v is. loads.opens_source v (subst (λ t. IsSeen t v) (sym c.look.ensures.told) is)) (λ v is. loads.opens_target v (subst (λ t. IsSeen t v) (sym c.look.ensures.told) is))
     (subst (λ t. Placed sides.names sides.source sides.target t c.begin_with.result) same c.begin_with.ensures.placed) c.begin_with.ensures.moved
-    (subst (λ t. EndsBy (StayGood sides.source sides.target t after) (SharesWhereTidy sides.names sides.source sides.target left left' t after) sides.names sides.source sides.target after c.begin_with.result) same c.begin_with.ensures.ends))
+    (subst (λ t. EndsBy (StayGood sides.source sides.target t after) (SharesSeen sides.names sides.source sides.target c.args.work.now left left' t after) sides.names sides.source sides.target after c.begin_with.result) same c.begin_with.ensures.ends))
 
 pub returns-in_err-look-clause-cause : goal.returns-in_err-look-clause-cause
 returns-in_err-look-clause-cause g c v seen =
@@ -236,7 +236,7 @@ returns-clause-too_long g c =
     let here = g.F.Folder.told c.load_both.new.folder in
     let after = g.F.Folder.told c.begin_with.new.folder in
     subst (λ n. IfErr c.begin_with.result (IsOfLimit (PassesInTree n from to pass pass' told after))) loads.names
-    (limit_in_tree (StayGood sides.source sides.target here after) (SharesWhereTidy sides.names sides.source sides.target (g.R.Randoms.left c.args.random.now) (g.R.Randoms.left c.begin_with.new.random) here after)
+    (limit_in_tree (StayGood sides.source sides.target here after) (SharesSeen sides.names sides.source sides.target c.args.work.now (g.R.Randoms.left c.args.random.now) (g.R.Randoms.left c.begin_with.new.random) here after)
     sides.names from to pass pass' sides.source sides.target told after
     c.begin_with.result loads.source loads.target (λ v is. loads.opens_source v (subst (λ t. IsSeen t v) (sym c.look.ensures.told) is)) (λ v is. loads.opens_target v (subst (λ t. IsSeen t v) (sym c.look.ensures.told) is))
     c.begin_with.ensures.ends)
@@ -261,10 +261,10 @@ returns-clause-shared g c =
     let left' = g.R.Randoms.left c.begin_with.new.random in
     let told = g.F.Folder.told c.args.folder.now in
     let after = g.F.Folder.told c.begin_with.new.folder in
-    subst (λ n. IfErr c.begin_with.result (IsOfTaken (SharesInTree n from to pass pass' left left' told after))) loads.names
-    (shared_in_tree (StayGood sides.source sides.target told after) sides.names from to pass pass' sides.source sides.target left left' told after
+    subst (λ n. IfErr c.begin_with.result (IsOfTaken (SharesInTree n from to c.args.work.now pass pass' left left' told after))) loads.names
+    (shared_in_tree (StayGood sides.source sides.target told after) sides.names from to c.args.work.now pass pass' sides.source sides.target left left' told after
     c.begin_with.result loads.source loads.target (λ v is. loads.opens_source v (subst (λ t. IsSeen t v) (sym c.look.ensures.told) is)) (λ v is. loads.opens_target v (subst (λ t. IsSeen t v) (sym c.look.ensures.told) is))
-    (subst (λ t. EndsBy (StayGood sides.source sides.target t after) (SharesWhereTidy sides.names sides.source sides.target left left' t after) sides.names sides.source sides.target after c.begin_with.result)
+    (subst (λ t. EndsBy (StayGood sides.source sides.target t after) (SharesSeen sides.names sides.source sides.target c.args.work.now left left' t after) sides.names sides.source sides.target after c.begin_with.result)
     (c.load_both.ensures.told ∙ c.look.ensures.told) c.begin_with.ensures.ends))
 
 pub returns-in_err-sides-clause-blamed : goal.returns-in_err-sides-clause-blamed

@@ -26,7 +26,7 @@ use Rattle.migrate_core.proofs.Limits.{ends_more, ends_uncompared}
 use Rattle.migrate_core.specs.Copying.{StayGood}
 use Rattle.migrate_core.specs.Limits.{EndsBy}
 use Rattle.migrate_core.proofs.Sharing.{source_shares}
-use Rattle.migrate_core.specs.Sharing.{IsFilled, SharesFrom, SharesWhereTidy}
+use Rattle.migrate_core.specs.Sharing.{IsFilled, SharesFrom, SharesSeen}
 use Rattle.migrate_core.proofs.Drawing.{drew_refused}
 use Rattle.migrate_core.proofs.beginning.begin_with.Given.{Over}
 use Rattle.migrate_core.proofs.beginning.begin_with.Goals as goal
@@ -244,10 +244,10 @@ returns-clause-ends g c =
     let walked_to = subst (IsWalked told to) (sym c.as_slice.ensures ∙ c.in_ok-test_empty.ensures.empty) c.in_ok-plans.ensures.target in
     let may = may_begin c.walks_tell_the_tree.ensures.plan rule from to (c.clean_vaults_are_orderly.ensures from.vault) (c.clean_vaults_are_orderly.ensures to.vault) items [] told (g.met.F.Folder.sound c.args.folder.now)
     c.in_ok-plans.ensures.source walked_to c.in_ok-plans.ensures.passed_source (empty_held c.walks_tell_the_tree.ensures.plan rule from to items told) in
-    ends_more (StayGood from to told after) (StayGood from to told after) (SharesFrom (IsFilled rule from to []) to mapped left left' told after) (SharesWhereTidy rule from to left left' told after) rule from to after c.move_all.result
+    ends_more (StayGood from to told after) (StayGood from to told after) (SharesFrom (IsFilled rule from to []) to c.args.work.now mapped left left' told after) (SharesSeen rule from to c.args.work.now left left' told after) rule from to after c.move_all.result
     (λ good. good)
-    (source_shares c.walks_tell_the_tree.ensures.plan rule from to items mapped left left' told after may (record { walked = c.in_ok-plans.ensures.source; same = c.in_ok-mapped.ensures.mapped }) walked_to)
-    (subst (λ t. EndsBy (StayGood from to t after) (SharesFrom (IsFilled rule from to []) to mapped left left' t after) rule from to after c.move_all.result) c.walk_both.ensures.told c.move_all.ensures.ends)
+    (source_shares c.walks_tell_the_tree.ensures.plan rule from to c.args.work.now items mapped [] left left' told after may (record { walked = c.in_ok-plans.ensures.source; same = c.in_ok-mapped.ensures.mapped }) walked_to)
+    (subst (λ t. EndsBy (StayGood from to t after) (SharesFrom (IsFilled rule from to []) to c.args.work.now mapped left left' t after) rule from to after c.move_all.result) c.walk_both.ensures.told c.move_all.ensures.ends)
 
 pub returns-in_err-plans-clause-blamed : goal.returns-in_err-plans-clause-blamed
 returns-in_err-plans-clause-blamed g c =

@@ -26,10 +26,7 @@ use Rattle.migrate_core.specs.Written.{WritesBeside, WritesBy, done_texts, lacke
 use Rattle.move_journal.specs.Journal.{journal_text}
 use Rattle.migrate_core.proofs.Limits.{ends_more, ends_uncompared}
 use Rattle.migrate_core.specs.Copying.{CopiesAll, StayGood}
-use Rattle.migrate_core.proofs.Sharing.{filled_as, shares_before}
 use Rattle.migrate_core.specs.Sharing.{IsFilled, SharesFrom}
-use Rattle.vault_spec.specs.Staying.{LoadsAlike}
-use Rattle.folder_spec.specs.Seen.{under}
 use Rattle.migrate_core.proofs.Drawing.{drew_refused}
 use Rattle.migrate_core.proofs.beginning.move_all.Given.{Over}
 use Rattle.migrate_core.proofs.beginning.move_all.Goals as goal
@@ -37,7 +34,7 @@ use Rattle.migrate_core.proofs.beginning.move_all.Goals.{After-write}
 use Rattle.migration_sides.proofs.Chains.{refused_as}
 use Rattle.migration_sides.proofs.Told.{folder_unless, work_refused}
 use Rattle.migrate_core.proofs.Tested.{folder_tested, work_tested}
-use Rattle.migrate_core.proofs.Readied.{begun_readied, lacked_kept, readied_good, readied_stops, source_is, target_is, IsReadied}
+use Rattle.migrate_core.proofs.Readied.{begun_readied, lacked_kept, readied_good, readied_shares, readied_stops, IsReadied}
 use Rattle.migrate_core.proofs.Bringing.{brings_done, brings_then, brings_written, texts_entered, unbrought_between}
 use Rattle.migrate_core.specs.Lasting.{BringsTexts, KeepsTexts}
 
@@ -323,14 +320,9 @@ returns-clause-ends g c =
     let left = g.R.Randoms.left c.args.random.now in
     let left' = g.R.Randoms.left c.go_on.new.random in
     let ready = readied g (goal.at.returns-clause-ends g c).After-write in
-    let source_same = source_is rule from to work items mapped [] told written ready in
-    let target_same = target_is rule from to work items mapped [] told written ready in
-    ends_more (CopiesAll rule from to [] mapped written after) (StayGood from to told after) (SharesFrom (IsFilled rule from to []) to mapped left left' written after) (SharesFrom (IsFilled rule from to []) to mapped left left' told after) rule from to after
-    c.go_on.result (readied_good rule from to work items mapped [] told written ready after c.requires.copying)
-    (shares_before c.args.work.now (apart_from_both work to.root) to.root (IsFilled rule from to []) (IsFilled rule from to []) to mapped mapped left left left' told written after ready.moves
-    (λ v w is_v is_w. filled_as rule from to [] v w (source_same v w is_v is_w) (target_same v w is_v is_w))
-    (λ v w is_v is_w filled. subst (LoadsAlike (under to.root v)) (sym (target_same v w is_v is_w)) (λ pass vault opens. opens)) (λ item among. among) c.draws_compose.ensures.composed (λ v is. ([], c.draws_compose.ensures.none left)))
-    c.go_on.ensures.ends
+    ends_more (CopiesAll rule from to [] mapped written after) (StayGood from to told after) (SharesFrom (IsFilled rule from to []) to work mapped left left' written after) (SharesFrom (IsFilled rule from to []) to work mapped left left' told after) rule from to after
+    c.go_on.result (readied_good rule from to work items mapped [] told written ready after c.requires.copying) (readied_shares rule from to work items mapped [] told written ready after left left' c.draws_compose.ensures.composed (c.draws_compose.ensures.none left))
+    (subst (λ w. EndsBy (CopiesAll rule from to [] mapped written after) (SharesFrom (IsFilled rule from to []) to w mapped left left' written after) rule from to after c.go_on.result) c.in_ok-entered.ensures.path c.go_on.ensures.ends)
 
 pub returns-in_err-entered-clause-unready : goal.returns-in_err-entered-clause-unready
 returns-in_err-entered-clause-unready g c =
@@ -377,7 +369,8 @@ returns-in_err-write-clause-journal g c =
     let told = g.F.Folder.told c.args.folder.now in
     let here = g.F.Folder.told c.enter.new.folder in
     let written = g.F.Folder.told c.write.new.folder in
-    let Trees = HaveMappedTree rule from to in (
+    let Trees = HaveMappedTree rule from to in
+    (
       items,
       subst (λ (j : Journal). BringsTexts Trees work j told written) (is_new g (goal.at.returns-in_err-write-clause-journal g c).After-write)
           (brings_then Trees work c.in_ok-journal.journal told here written (texts_entered work c.in_ok-journal.journal told here c.enter.ensures.enters.moments) (brings_written Trees work c.in_ok-journal.journal here written c.write.ensures.moments)),
@@ -395,7 +388,8 @@ returns-clause-journal g c =
     let here = g.F.Folder.told c.enter.new.folder in
     let written = g.F.Folder.told c.write.new.folder in
     let after = g.F.Folder.told c.go_on.new.folder in
-    let Trees = HaveMappedTree rule from to in (
+    let Trees = HaveMappedTree rule from to in
+    (
       items,
       subst (λ (j : Journal). BringsTexts Trees work j told after) (is_new g (goal.at.returns-clause-journal g c).After-write)
           (brings_done Trees work j told written after (g.met.F.Folder.sound c.write.new.folder)

@@ -191,8 +191,8 @@ returns-in_err-placed-clause-ends g c =
     let here = g.F.Folder.told c.place_missing.new.folder in
     let left = g.R.Randoms.left c.args.random.now in
     let left1 = g.R.Randoms.left c.place_missing.new.random in
-    ends_stopped _ (SharesFrom (IsFilled rule from to c.args.there.now) to c.args.items.now.mapped.items left left1 told here) rule from to here c.from_residual.result _ c.from_residual.ensures.1
-    (subst (λ xs. StopsFor (SharesFrom (IsFilled rule from to c.args.there.now) to xs left left1 told here) c.in_err-placed.field-0.0) c.as_slice-mapped.ensures c.in_err-placed.ensures.stops)
+    ends_stopped _ (SharesFrom (IsFilled rule from to c.args.there.now) to c.args.work.now c.args.items.now.mapped.items left left1 told here) rule from to here c.from_residual.result _ c.from_residual.ensures.1
+    (subst (λ xs. StopsFor (SharesFrom (IsFilled rule from to c.args.there.now) to c.args.work.now xs left left1 told here) c.in_err-placed.field-0.0) c.as_slice-mapped.ensures c.in_err-placed.ensures.stops)
 
 pub returns-clause-ends : goal.returns-clause-ends
 returns-clause-ends g c =
@@ -206,7 +206,7 @@ returns-clause-ends g c =
     let after = g.F.Folder.told c.finish.new.folder in
     let copies : CopiesAll rule from to there items told here = subst (λ xs. CopiesAll rule from to there xs told here) c.as_slice-mapped.ensures c.in_ok-placed.ensures.copies in
     ends_later (CopiesAll rule from to items items here after) (CopiesAll rule from to there items told after) (HasCopied rule from to items)
-    (λ v. IsFilled rule from to there v → OneShares to items v (g.R.Randoms.left c.args.random.now) (g.R.Randoms.left c.place_missing.new.random) told after) rule from to told here after c.finish.result
+    (λ v. IsFilled rule from to there v → OneShares to c.args.work.now items v (g.R.Randoms.left c.args.random.now) (g.R.Randoms.left c.place_missing.new.random) after) rule from to told here after c.finish.result
     (λ stays v w is_v is_w has. let u = seen_then _ told here c.place_missing.ensures.moves v is_v in stays u.0 w u.1 is_w (copies v u.0 is_v u.1 has)) (seen_then _ told here c.place_missing.ensures.moves)
     c.finish.ensures.moving c.finish.ensures.ends
 

@@ -131,7 +131,7 @@ returns-in_err-place_dir_keeping-in-Dir-clause-stops g c =
     fault_as _ c.from_residual.result c.from_residual.ensures.1
     (item_stops c.what_stands_is_found_step_by_step.ensures.behind c.files_have_their_contents.ensures c.what_is_found_stands.ensures.enters c.args.sides.now.names
     from to (c.items_keep_vaults.ensures to.vault) c.args.work.now item NewDirectory Whole made.drawn left left' made.were_drawn told told'
-    (subst (λ p. IsTrue (list_all is_name p)) (ap (λ (x : Planned). x.path) c.item.view_is) c.names-named.ensures.named) (subst (λ kind. IsMadeFor kind NewDirectory) (sym node) refl) c.requires.apart.target why
+    (subst (λ p. IsTrue (list_all is_name p)) (ap (λ (x : Planned). x.path) c.item.view_is) c.names-named.ensures.named) (subst (λ kind. IsMadeFor kind NewDirectory) (sym node) refl) c.requires.ready why
     (subst (λ q. MakesAt New to c.args.work.now q NewDirectory Whole made.drawn told told' (Err why)) (ap (λ (x : Planned). x.path) c.item.view_is) made.makes))
 
 pub returns-in_ok-place_dir_keeping-in-Dir-clause-drew : goal.returns-in_ok-place_dir_keeping-in-Dir-clause-drew

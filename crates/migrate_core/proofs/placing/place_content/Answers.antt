@@ -191,7 +191,7 @@ returns-in_err-placed-clause-stops g c =
     fault_as _ c.from_residual-in_err-placed.result c.from_residual-in_err-placed.ensures.1
     (item_stops c.what_stands_is_found_step_by_step.ensures.behind c.files_have_their_contents.ensures c.what_is_found_stands.ensures.enters c.args.sides.now.names
     from to (c.items_keep_vaults.ensures to.vault) c.args.work.now item (NewFile w.content) w.ending w.drawn left left' made.takes.were_drawn told told'
-    (subst (λ p. IsTrue (list_all is_name p)) (ap (λ (x : Planned). x.path) c.item.view_is) c.names-named.ensures.named) (subst (λ kind. IsMadeFor kind (NewFile w.content)) (sym c.requires.file) (w.content, refl)) c.requires.apart.target why
+    (subst (λ p. IsTrue (list_all is_name p)) (ap (λ (x : Planned). x.path) c.item.view_is) c.names-named.ensures.named) (subst (λ kind. IsMadeFor kind (NewFile w.content)) (sym c.requires.file) (w.content, refl)) c.requires.ready why
     (subst (λ q. MakesAt New to c.args.work.now q (NewFile w.content) w.ending w.drawn told told' (Err why)) (ap (λ (x : Planned). x.path) c.item.view_is) made.makes))
 
 pub returns-in_err-content-clause-drew : goal.returns-in_err-content-clause-drew

@@ -16,14 +16,14 @@ use Rattle.migrate_core.proofs.Copyings.{all_copied, none_copied, one_copied, th
 use Rattle.migrate_core.proofs.Entered.{next_enters}
 use Rattle.migrate_core.specs.Copying.{Enters, HasCopied}
 use Rattle.migrate_core.proofs.Sharing.{next_lacks, none_filled, one_filled, shares_before, stops_more}
-use Rattle.migrate_core.specs.Sharing.{IsFilled, Lacks, SharesFrom}
+use Rattle.migrate_core.specs.Sharing.{IsFilled, LacksOther, SharesFrom}
 use Rattle.migrate_core.specs.Faults.{is_of_apart}
 use Rattle.vault_write.specs.Calls.{IsKept}
 use Rattle.migrate_core.proofs.Drawing.{drew_err, drew_failed, drew_none, drew_ok, drew_tested, drew_then}
 use Rattle.migrate_core.proofs.placing.place_missing.Goals as goal
 use Rattle.migrate_core.proofs.placing.place_missing.Goals.{then-branch, else-branch}
 use Rattle.folder_spec.proofs.Seen.{one_view}
-use Rattle.migration_spec.proofs.Tellings.{seen_before}
+use Rattle.migration_spec.proofs.Tellings.{seen_before, seen_then}
 use Rattle.migration_sides.proofs.Chains.{fault_as, refused_as}
 
 pub loop-item-init : goal.loop-item-init
@@ -43,7 +43,7 @@ loop-item-init g c =
       copied = λ v w is_v is_w h. none_copied c.args.sides.now.names c.args.sides.now.source c.args.sides.now.target c.args.there.now v w (one_view told w v is_w is_v) h;
       none = λ all. refl;
       kept = subst (λ dir. IsKept c.args.sides.now.target told dir) (sym c.new.ensures.dir) tt;
-      fills = λ v w is_v is_w h. none_filled c.args.sides.now.target v w (one_view told w v is_w is_v) h.1;
+      fills = λ v w is_v is_w h. none_filled c.args.sides.now.target c.args.there.now v w (one_view told w v is_w is_v) h.1;
     }
 
 pub place_missing_one-requires-clause-item : goal.place_missing_one-requires-clause-item
@@ -164,7 +164,7 @@ loop-item-preserved g c =
           (c.in_ok-place_missing_one.ensures.copies mid.0 w mid.1 is_w (there_copied rule from to there (take k items) mid.0 before));
       fills = λ v w is_v is_w h.
           let mid = seen_before _ here told' c.place_missing_one.ensures.moves w is_w in
-          one_filled rule from to items k item v mid.0 w c.loop-item-test.true c.item-item.is (i.fills v mid.0 is_v mid.1 h)
+          one_filled rule from to there items k item v mid.0 w c.loop-item-test.true c.item-item.is (i.fills v mid.0 is_v mid.1 h)
           (c.in_ok-place_missing_one.ensures.copies mid.0 w mid.1 is_w (there_copied rule from to there (take k items) mid.0 (i.copied v mid.0 is_v mid.1 h.0)));
       kept = c.in_ok-place_missing_one.ensures.kept;
       none = λ all. c.place_missing_one.ensures.none (all c.item-item.result (c.loop-item.item-index, c.loop-item-test.true, sym c.item-item.is)) ∙ i.none all;
@@ -256,13 +256,13 @@ returns-in_err-place_missing_one-clause-stops g c =
     let i = c.loop-item.invariant in
     let walked = mapped_stay rule from to.root work items told here c.requires.apart (g.met.F.Folder.sound c.args.folder.now) i.moves c.requires.walked in
     fault_as _ c.from_residual.result c.from_residual.ensures.1
-    (stops_more (SharesFrom (Lacks rule from to item) to (item ∷ []) left1 left2 here told') (SharesFrom (IsFilled rule from to there) to items left left2 told told') c.in_err-place_missing_one.field-0.0
-    (shares_before c.args.work.now (is_apart work to.root) to.root (Lacks rule from to item) (IsFilled rule from to there) to (item ∷ []) items left left1 left2 told here told' i.moves
+    (stops_more (SharesFrom (LacksOther rule from to there item) to work (item ∷ []) left1 left2 here told') (SharesFrom (IsFilled rule from to there) to work items left left2 told told') c.in_err-place_missing_one.field-0.0
+    (shares_before (LacksOther rule from to there item) (IsFilled rule from to there) to work (item ∷ []) items left left1 left2 told here told' (seen_then _ told here i.moves)
     (λ v w is_v is_w h.
     let copied = i.copied v w is_v is_w h.0 in
     next_lacks rule from to there items k item w (source_tells c.walks_tell_the_tree.ensures.plan c.mapped_walks_tell_the_mapped_tree.ensures.apart rule from items here w walked is_w copied.copying.source.orderly) c.loop-item-test.true c.item-item.is
-    copied (i.fills v w is_v is_w h).0)
-    (λ v w is_v is_w h. (i.fills v w is_v is_w h).1) (next_among items k item c.loop-item-test.true c.item-item.is) c.draws_compose.ensures.composed
+    copied (i.fills v w is_v is_w h).only)
+    (λ v w is_v is_w h. let filled = i.fills v w is_v is_w h in (filled.loads, filled.tidy)) (next_among items k item c.loop-item-test.true c.item-item.is) c.draws_compose.ensures.composed
     (λ v is. let w = i.written (c.requires.there v is) in (slices w.made, w.writes.drawn))) c.in_err-place_missing_one.ensures.stops)
 
 pub returns-in_err-place_missing_one-clause-drew : goal.returns-in_err-place_missing_one-clause-drew

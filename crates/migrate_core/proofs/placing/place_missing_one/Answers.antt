@@ -9,6 +9,8 @@ use Rattle.migrate_core.proofs.Writings.{only_nowhere, texts_alone}
 use Rattle.migrate_core.specs.Written.{BringsOnlyTo, WritesAll, WritesBy, WritesFirst, lacked}
 use Rattle.migrate_core.proofs.Copyings.{stands_copied}
 use Rattle.migrate_core.proofs.Drawing.{drew_err, drew_failed, drew_none, drew_ok, drew_tested}
+use Rattle.migrate_core.proofs.Sharing.{lacks_where, stops_more}
+use Rattle.migrate_core.specs.Sharing.{Lacks, LacksOther, SharesFrom}
 use Rattle.migrate_core.proofs.placing.place_missing_one.Goals as goal
 use Rattle.folder_spec.proofs.Seen.{one_view}
 use Rattle.migration_sides.proofs.Chains.{fault_as, refused_as}
@@ -82,8 +84,19 @@ returns-clause-copies g c v w is_v is_w h = c.in_ok-place.ensures.copies v w is_
 
 pub returns-in_err-place-clause-stops : goal.returns-in_err-place-clause-stops
 returns-in_err-place-clause-stops g c =
+    let rule = c.args.sides.now.names in
+    let from = c.args.sides.now.source in
+    let to = c.args.sides.now.target in
+    let work = c.args.work.now in
+    let there = c.args.there.now in
+    let item = c.args.item.now in
+    let told = g.F.Folder.told c.args.folder.now in
+    let told' = g.F.Folder.told c.place.new.folder in
+    let left = g.R.Randoms.left c.args.random.now in
+    let left' = g.R.Randoms.left c.place.new.random in
     fault_as _ c.from_residual.result c.from_residual.ensures.1
-    c.in_err-place.ensures.stops
+    (stops_more (SharesFrom (Lacks rule from to item) to work (item ∷ []) left left' told told') (SharesFrom (LacksOther rule from to there item) to work (item ∷ []) left left' told told') c.in_err-place.field-0.0
+    (λ shares v is h. shares v is (lacks_where rule from to there item v (sym (c.stands.ensures (c.requires.there v is)) ∙ c.if-stands.false) h)) c.in_err-place.ensures.stops)
 
 pub returns-then-stands-clause-drew : goal.returns-then-stands-clause-drew
 returns-then-stands-clause-drew g c =

@@ -1,4 +1,4 @@
-use Rattle.std.proofs.Common.{◌≡◌, ◌∙◌, Result, Ok, sym, ap, arith, subst, Contains, [], ◌∷◌, IfErr, inl, inr}
+use Rattle.std.proofs.Common.{◌≡◌, ◌∙◌, Result, Ok, sym, ap, arith, subst, subst₂, Contains, [], ◌∷◌, IfErr, inl, inr}
 use Rattle.folder_spec.specs.Region.{apart_from, apart_from_both, IsAsBefore}
 use Rattle.migration_spec.specs.Alone.{Finished}
 use Rattle.vault_walk.specs.Survey.{IsOrdered}
@@ -34,7 +34,7 @@ use Rattle.migrate_core.proofs.resuming.place_rest.Goals.{After-again}
 use Rattle.migration_sides.proofs.Chains.{refused_as}
 use Rattle.migration_sides.proofs.Told.{work_refused}
 use Rattle.migrate_core.proofs.Tested.{work_tested}
-use Rattle.migrate_core.proofs.Readied.{lacked_kept, readied_good, readied_stops, IsReadied}
+use Rattle.migrate_core.proofs.Readied.{lacked_kept, readied_good, readied_shares, readied_stops, IsReadied}
 use Rattle.folder_spec.specs.Event.{FromTo}
 use Rattle.migrate_core.proofs.Lastings.{clears_later, keeps_then, on_ok_more, texts_by_region}
 use Rattle.migrate_core.proofs.WorkFolders.{changing_moves}
@@ -224,9 +224,10 @@ returns-clause-ends g c =
     let after = g.F.Folder.told c.go_on.new.folder in
     let left = g.R.Randoms.left c.args.random.now in
     let left' = g.R.Randoms.left c.go_on.new.random in
-    ends_more (CopiesAll rule from to there mapped ready after) (StayGood from to told after) (SharesFrom (IsFilled rule from to there) to mapped left left' ready after) (Unit {0}) rule from to after c.go_on.result
-    (readied_good rule from to work own mapped there told ready (readied g (goal.at.returns-clause-ends g c).After-again) after c.requires.copying) (λ shares. tt)
-    (subst (λ xs. EndsBy (CopiesAll rule from to xs mapped ready after) (SharesFrom (IsFilled rule from to xs) to mapped left left' ready after) rule from to after c.go_on.result) c.as_slice-there.ensures c.go_on.ensures.ends)
+    let known = readied g (goal.at.returns-clause-ends g c).After-again in
+    ends_more (CopiesAll rule from to there mapped ready after) (StayGood from to told after) (SharesFrom (IsFilled rule from to there) to work mapped left left' ready after) (SharesFrom (IsFilled rule from to there) to work mapped left left' told after) rule from to after
+    c.go_on.result (readied_good rule from to work own mapped there told ready known after c.requires.copying) (readied_shares rule from to work own mapped there told ready known after left left' c.draws_compose.ensures.composed (c.draws_compose.ensures.none left))
+    (subst₂ (λ w xs. EndsBy (CopiesAll rule from to xs mapped ready after) (SharesFrom (IsFilled rule from to xs) to w mapped left left' ready after) rule from to after c.go_on.result) c.in_ok-again.ensures.path c.as_slice-there.ensures c.go_on.ensures.ends)
 
 pub returns-in_err-again-clause-unready : goal.returns-in_err-again-clause-unready
 returns-in_err-again-clause-unready g c = inl (no_file g (goal.at.returns-in_err-again-clause-unready g c).After-again)

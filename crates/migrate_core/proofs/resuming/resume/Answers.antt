@@ -11,7 +11,9 @@ use Rattle.migrate_core.proofs.WrittenTrees.{refused_written, told_after}
 use Rattle.std.proofs.Common.{inl, Ok, refl, IfErr}
 use Rattle.migrate_core.proofs.Completing.{folder_chance, own_faults}
 use Rattle.migrate_core.proofs.Continuing.{resume_completes}
-use Rattle.migrate_core.proofs.Limits.{as_told_before, limit_more, none_compared}
+use Rattle.migrate_core.proofs.Limits.{as_told_before, if_taken, limit_more, none_compared, none_taken}
+use Rattle.migrate_core.proofs.Sharing.{as_told_since}
+use Rattle.migrate_core.specs.Sharing.{SharesAsTold}
 use Rattle.migrate_core.specs.Limits.{PassesAsTold}
 use Rattle.migrate_core.proofs.Drawing.{drew_refused, undrawn_on}
 use Rattle.migrate_core.proofs.resuming.resume.Goals as goal
@@ -121,6 +123,23 @@ returns-clause-too_long g c v seen =
     let pass' = c.args.target_pass.now in
     let known = settle_seen t0 t1 c.in_ok-settle.field-0 c.in_ok-settle.ensures.changes in
     limit_more (PassesAsTold work pass pass' t1 t2 v) (PassesAsTold work pass pass' t0 t2 v) c.resume_settled.result (as_told_before work pass pass' t0 t1 t2 known v) (c.resume_settled.ensures.too_long v (known v seen))
+
+pub returns-in_err-settle-clause-shared : goal.returns-in_err-settle-clause-shared
+returns-in_err-settle-clause-shared g c v seen =
+    none_taken _ c.from_residual.result _ c.from_residual.ensures.1 (folder_tested c.in_err-settle.field-0.0).0
+
+pub returns-clause-shared : goal.returns-clause-shared
+returns-clause-shared g c v seen =
+    let work = c.args.work.now in
+    let t0 = g.F.Folder.told c.args.folder.now in
+    let t1 = g.F.Folder.told c.settle.new.self in
+    let t2 = g.F.Folder.told c.resume_settled.new.folder in
+    let pass = c.args.source_pass.now in
+    let pass' = c.args.target_pass.now in
+    let left = g.R.Randoms.left c.args.random.now in
+    let left' = g.R.Randoms.left c.resume_settled.new.random in
+    let known = settle_seen t0 t1 c.in_ok-settle.field-0 c.in_ok-settle.ensures.changes in
+    if_taken (SharesAsTold work pass pass' left left' t1 t2 v) (SharesAsTold work pass pass' left left' t0 t2 v) c.resume_settled.result (as_told_since work pass pass' left left' t0 t1 t2 known v) (c.resume_settled.ensures.shared v (known v seen))
 
 pub returns-in_err-settle-clause-drew : goal.returns-in_err-settle-clause-drew
 returns-in_err-settle-clause-drew g c = drew_refused c.draws_compose.ensures.none (g.R.Randoms.left c.args.random.now) c.from_residual.result _ c.from_residual.ensures.1 (folder_tested c.in_err-settle.field-0.0).1

@@ -21,7 +21,8 @@ use Rattle.migrate_core.specs.Faults.{of_journal, of_step, of_work}
 use Rattle.migrate_core.specs.declared.placing.Done.{Done}
 use Rattle.migrate_core.proofs.WrittenTrees.{nothing_written, told_of}
 use Rattle.migrate_core.specs.Written.{MayWriteTreeBy, done_texts}
-use Rattle.migrate_core.proofs.Limits.{limit_more, none_compared}
+use Rattle.migrate_core.proofs.Limits.{if_taken, limit_more, none_compared, none_taken}
+use Rattle.migrate_core.specs.Sharing.{SharesAsTold, SharesInTree}
 use Rattle.migrate_core.specs.Limits.{PassesAsTold, PassesInTree}
 use Rattle.migrate_core.proofs.Drawing.{drew_refused, undrawn_on}
 use Rattle.migrate_core.proofs.resuming.resume_settled.Given.{Over}
@@ -201,7 +202,8 @@ module _ (g : Over) (c : After-resume_told g) where
       let work = c.args.work.now in
       let pass = c.args.source_pass.now in
       let pass' = c.args.target_pass.now in
-      let read = c.in_ok-journal.journal in (
+      let read = c.in_ok-journal.journal in
+      (
         told.0,
         record {
           journal = read;
@@ -250,6 +252,37 @@ returns-clause-too_long g c v seen =
       stands = read_stands work v read (c.in_ok-journal.ensures.answer v seen);
       passes = subst (λ t. PassesInTree read.names read.source read.target pass pass' t t3 at) (c.look_again.ensures.told ∙ c.read.ensures.told) passes;
     }) c.resume_told.ensures.too_long
+
+pub returns-in_err-journal-clause-shared : goal.returns-in_err-journal-clause-shared
+returns-in_err-journal-clause-shared g c v seen =
+    none_taken _ c.from_residual.result _ c.from_residual.ensures.1 (journal_tested c.in_err-journal.field-0.0).0
+
+pub returns-in_err-test_apart-clause-shared : goal.returns-in_err-test_apart-clause-shared
+returns-in_err-test_apart-clause-shared g c v seen =
+    none_taken _ c.from_residual-in_err-test_apart.result _ c.from_residual-in_err-test_apart.ensures.1 (step_tested c.in_err-test_apart.field-0.0).0
+
+pub returns-in_err-look_again-clause-shared : goal.returns-in_err-look_again-clause-shared
+returns-in_err-look_again-clause-shared g c v seen =
+    none_taken _ c.from_residual-in_err-look_again.result _ c.from_residual-in_err-look_again.ensures.1 (work_tested c.in_err-look_again.field-0.0).0
+
+pub returns-clause-shared : goal.returns-clause-shared
+returns-clause-shared g c v seen =
+    let work = c.args.work.now in
+    let t0 = g.F.Folder.told c.args.folder.now in
+    let t2 = g.F.Folder.told c.look_again.new.folder in
+    let t3 = g.F.Folder.told c.resume_told.new.folder in
+    let pass = c.args.source_pass.now in
+    let pass' = c.args.target_pass.now in
+    let left = g.R.Randoms.left c.args.random.now in
+    let left' = g.R.Randoms.left c.resume_told.new.random in
+    let read = c.in_ok-journal.journal in
+    if_taken (SharesInTree read.names read.source read.target work pass pass' left left' t2 t3) (SharesAsTold work pass pass' left left' t0 t3 v) c.resume_told.result
+    (λ shares. record {
+      journal = read;
+      is = c.in_ok-journal.ensures.journal;
+      stands = read_stands work v read (c.in_ok-journal.ensures.answer v seen);
+      shares = subst (λ t. SharesInTree read.names read.source read.target work pass pass' left left' t t3) (c.look_again.ensures.told ∙ c.read.ensures.told) shares;
+    }) c.resume_told.ensures.shared
 
 pub returns-in_err-test_apart-clause-blamed : goal.returns-in_err-test_apart-clause-blamed
 returns-in_err-test_apart-clause-blamed g c =

@@ -21,7 +21,8 @@ use Rattle.migrate_core.specs.Faults.{of_step}
 use Rattle.migrate_core.specs.declared.placing.Done.{Done}
 use Rattle.migrate_core.proofs.WrittenTrees.{nothing_written, tree_of}
 use Rattle.migrate_core.specs.Written.{MayWriteBy, done_texts}
-use Rattle.migrate_core.proofs.Limits.{limit_in_tree, none_compared}
+use Rattle.migrate_core.proofs.Limits.{limit_in_tree, none_compared, none_taken, shared_in_tree}
+use Rattle.migrate_core.specs.Sharing.{IsOfTaken, SharesInTree, SharesSeen}
 use Rattle.migrate_core.specs.Copying.{StayGood}
 use Rattle.migrate_core.specs.Limits.{EndsBy}
 use Rattle.migrate_core.proofs.Drawing.{drew_refused, undrawn_on}
@@ -98,14 +99,15 @@ returns-clause-moved g c =
     let work = c.args.work.now in
     let told = g.F.Folder.told c.args.folder.now in
     let after = g.F.Folder.told c.resume_with.new.folder in
+    let shares = λ t. SharesSeen sides.names sides.source sides.target work (g.R.Randoms.left c.args.random.now) (g.R.Randoms.left c.resume_with.new.random) t after in
     let same = c.load_both.ensures.told ∙ c.test_source.ensures.told in
-    tree_moved (Unit {0}) names c.args.journal.source c.args.journal.target work c.args.source_pass.now c.args.target_pass.now sides.source sides.target told after c.resume_with.result loads.source loads.target
+    tree_moved (shares told) names c.args.journal.source c.args.journal.target work c.args.source_pass.now c.args.target_pass.now sides.source sides.target told after c.resume_with.result loads.source loads.target
     (g.met.F.Folder.sound c.args.folder.now)
     (subst (λ root. MovesOnly work root told after) loads.target (subst (λ t. MovesOnly work sides.target.root t after) same c.resume_with.ensures.moves))
     (λ v is. loads.opens_source v (subst (λ t. IsSeen t v) (sym c.test_source.ensures.told) is)) (λ v is. loads.opens_target v (subst (λ t. IsSeen t v) (sym c.test_source.ensures.told) is))
     (subst (λ n. Placed n sides.source sides.target told c.resume_with.result) loads.names (subst (λ t. Placed sides.names sides.source sides.target t c.resume_with.result) same c.resume_with.ensures.placed)) c.resume_with.ensures.moved
-    (subst (λ n. EndsBy (StayGood sides.source sides.target told after) (Unit {0}) n sides.source sides.target after c.resume_with.result) loads.names
-    (subst (λ t. EndsBy (StayGood sides.source sides.target t after) (Unit {0}) sides.names sides.source sides.target after c.resume_with.result) same c.resume_with.ensures.ends))
+    (subst (λ n. EndsBy (StayGood sides.source sides.target told after) (shares told) n sides.source sides.target after c.resume_with.result) loads.names
+    (subst (λ t. EndsBy (StayGood sides.source sides.target t after) (shares t) sides.names sides.source sides.target after c.resume_with.result) same c.resume_with.ensures.ends))
 
 pub returns-in_err-test_source-clause-cause : goal.returns-in_err-test_source-clause-cause
 returns-in_err-test_source-clause-cause g c v seen =
@@ -225,9 +227,37 @@ returns-clause-too_long g c =
     let here = g.F.Folder.told c.load_both.new.folder in
     let after = g.F.Folder.told c.resume_with.new.folder in
     let good = StayGood sides.source sides.target here after in
-    limit_in_tree good (Unit {0}) c.args.journal.names c.args.journal.source c.args.journal.target c.args.source_pass.now c.args.target_pass.now sides.source sides.target (g.F.Folder.told c.args.folder.now) after
+    let shares = SharesSeen sides.names sides.source sides.target c.args.work.now (g.R.Randoms.left c.args.random.now) (g.R.Randoms.left c.resume_with.new.random) here after in
+    limit_in_tree good shares c.args.journal.names c.args.journal.source c.args.journal.target c.args.source_pass.now c.args.target_pass.now sides.source sides.target (g.F.Folder.told c.args.folder.now) after
     c.resume_with.result loads.source loads.target (λ v is. loads.opens_source v (subst (λ t. IsSeen t v) (sym c.test_source.ensures.told) is)) (λ v is. loads.opens_target v (subst (λ t. IsSeen t v) (sym c.test_source.ensures.told) is))
-    (subst (λ n. EndsBy good (Unit {0}) n sides.source sides.target after c.resume_with.result) loads.names c.resume_with.ensures.ends)
+    (subst (λ n. EndsBy good shares n sides.source sides.target after c.resume_with.result) loads.names c.resume_with.ensures.ends)
+
+pub returns-in_err-test_source-clause-shared : goal.returns-in_err-test_source-clause-shared
+returns-in_err-test_source-clause-shared g c =
+    none_taken _ c.from_residual.result _ c.from_residual.ensures.1 c.in_err-test_source.ensures.uncompared
+
+pub returns-in_err-sides-clause-shared : goal.returns-in_err-sides-clause-shared
+returns-in_err-sides-clause-shared g c =
+    none_taken _ c.from_residual-in_err-sides.result _ c.from_residual-in_err-sides.ensures.1 (step_tested c.in_err-sides.field-0.0).0
+
+pub returns-clause-shared : goal.returns-clause-shared
+returns-clause-shared g c =
+    let sides = c.in_ok-sides.sides in
+    let loads = c.in_ok-sides.ensures in
+    let from = c.args.journal.source in
+    let to = c.args.journal.target in
+    let work = c.args.work.now in
+    let pass = c.args.source_pass.now in
+    let pass' = c.args.target_pass.now in
+    let left = g.R.Randoms.left c.args.random.now in
+    let left' = g.R.Randoms.left c.resume_with.new.random in
+    let told = g.F.Folder.told c.args.folder.now in
+    let after = g.F.Folder.told c.resume_with.new.folder in
+    subst (λ n. IfErr c.resume_with.result (IsOfTaken (SharesInTree n from to work pass pass' left left' told after))) loads.names
+    (shared_in_tree (StayGood sides.source sides.target told after) sides.names from to work pass pass' sides.source sides.target left left' told after
+    c.resume_with.result loads.source loads.target (λ v is. loads.opens_source v (subst (λ t. IsSeen t v) (sym c.test_source.ensures.told) is)) (λ v is. loads.opens_target v (subst (λ t. IsSeen t v) (sym c.test_source.ensures.told) is))
+    (subst (λ t. EndsBy (StayGood sides.source sides.target t after) (SharesSeen sides.names sides.source sides.target work left left' t after) sides.names sides.source sides.target after c.resume_with.result)
+    (c.load_both.ensures.told ∙ c.test_source.ensures.told) c.resume_with.ensures.ends))
 
 pub returns-in_err-sides-clause-blamed : goal.returns-in_err-sides-clause-blamed
 returns-in_err-sides-clause-blamed g c =

@@ -21,10 +21,11 @@ use Rattle.migrate_core.proofs.WrittenTrees.{nothing_written}
 use Rattle.migrate_core.specs.Written.{WritesBeside, WritesBy, done_texts, lacked}
 use Rattle.migrate_core.proofs.Started.{matched_held, may_begin}
 use Rattle.migrate_core.specs.Copying.{MayBegin}
-use Rattle.migrate_core.proofs.Limits.{ends_uncompared}
+use Rattle.migrate_core.proofs.Limits.{ends_more, ends_uncompared}
 use Rattle.migrate_core.specs.Copying.{StayGood}
 use Rattle.migrate_core.specs.Limits.{EndsBy}
-use Rattle.migrate_core.proofs.Sharing.{whichever_taken}
+use Rattle.migrate_core.proofs.Sharing.{source_shares, tested_taken}
+use Rattle.migrate_core.specs.Sharing.{IsFilled, SharesFrom, SharesSeen}
 use Rattle.migrate_core.proofs.Drawing.{drew_refused}
 use Rattle.migrate_core.proofs.resuming.resume_with.Given.{Over}
 use Rattle.migrate_core.proofs.resuming.resume_with.Goals as goal
@@ -214,9 +215,12 @@ returns-in_err-mapped-clause-ends g c =
     let rule = c.args.sides.now.names in
     let from = c.args.sides.now.source in
     let to = c.args.sides.now.target in
+    let told = g.F.Folder.told c.args.folder.now in
     let here = g.F.Folder.told c.test_plans.new.folder in
-    refused_as (λ answer. EndsBy (StayGood from to (g.F.Folder.told c.args.folder.now) here) (Unit {0}) rule from to here answer) c.from_residual-in_err-mapped.result c.from_residual-in_err-mapped.ensures.1
-    ((λ v is. c.in_err-mapped.ensures.limit v (subst (λ t. IsSeen t v) c.test_plans.ensures.told is)), whichever_taken c.in_err-mapped.field-0.0)
+    let left = g.R.Randoms.left c.args.random.now in
+    let shares = SharesSeen rule from to c.args.work.now left left told here in
+    refused_as (λ answer. EndsBy (StayGood from to told here) shares rule from to here answer) c.from_residual-in_err-mapped.result c.from_residual-in_err-mapped.ensures.1
+    ((λ v is. c.in_err-mapped.ensures.limit v (subst (λ t. IsSeen t v) c.test_plans.ensures.told is)), tested_taken shares c.in_err-mapped.field-0.0 c.in_err-mapped.ensures.tested)
 
 pub returns-clause-ends : goal.returns-clause-ends
 returns-clause-ends g c =
@@ -229,7 +233,17 @@ returns-clause-ends g c =
     let there = plans.target.items in
     let told = g.F.Folder.told c.args.folder.now in
     let after = g.F.Folder.told c.place_rest.new.folder in
-    subst (λ t. EndsBy (StayGood from to t after) (Unit {0}) rule from to after c.place_rest.result) (c.test_plans.ensures.told ∙ c.walk_both.ensures.told) c.place_rest.ensures.ends
+    let left = g.R.Randoms.left c.args.random.now in
+    let left' = g.R.Randoms.left c.place_rest.new.random in
+    let same = c.test_plans.ensures.told ∙ c.walk_both.ensures.told in
+    let may = may_begin c.walks_tell_the_tree.ensures.plan rule from to (c.clean_vaults_are_orderly.ensures from.vault) (c.clean_vaults_are_orderly.ensures to.vault) plans.source.items there told (g.met.F.Folder.sound c.args.folder.now)
+    c.in_ok-plans.ensures.source c.in_ok-plans.ensures.target c.in_ok-plans.ensures.passed_source
+    (matched_held c.what_is_held_opens_the_same.ensures.part rule from to c.args.journal plans.source.items mapped there told c.in_ok-mapped.ensures.mapped
+    (λ v is. c.in_ok-mapped.ensures.passed v (subst (λ t. IsSeen t v) (sym c.walk_both.ensures.told) is))) in
+    ends_more (StayGood from to told after) (StayGood from to told after) (SharesFrom (IsFilled rule from to there) to work mapped left left' told after) (SharesSeen rule from to work left left' told after) rule from to after c.place_rest.result (λ good. good)
+    (source_shares c.walks_tell_the_tree.ensures.plan rule from to work plans.source.items mapped there left left' told after may
+    (record { walked = c.in_ok-plans.ensures.source; same = c.in_ok-mapped.ensures.mapped }) c.in_ok-plans.ensures.target)
+    (subst (λ t. EndsBy (StayGood from to t after) (SharesFrom (IsFilled rule from to there) to work mapped left left' t after) rule from to after c.place_rest.result) same c.place_rest.ensures.ends)
 
 pub returns-in_err-plans-clause-blamed : goal.returns-in_err-plans-clause-blamed
 returns-in_err-plans-clause-blamed g c =

@@ -84,6 +84,7 @@ returns-in-Ok-clause-came g c = λ v is.
       does = subst (λ t. IsWritten resuming t told' stream stream' v c.as_slice.result.now c.as_slice-2.result.now (Ok c.in-Ok.done)) same (record {
         writes = c.in-Ok.ensures.written v seen;
         too_long = tt;
+        shared = tt;
         tested = tested_seen (g.F.Folder.told c.learn.new.folder) told' (λ w. IfErr (Ok c.in-Ok.done) IsOfPlacing × PassesResume resuming.work c.as_slice.result.now c.as_slice-2.result.now w) v seen c.in-Ok.ensures.tested;
         undrawn = elim c.in-Ok.ensures.undrawn [ inl none ↦ inl none | inr passed ↦ inr (passed v seen) ];
       });
@@ -110,6 +111,7 @@ returns-clause-stopped g c = λ v is.
       does = subst (λ t. IsWritten resuming t told' stream stream' v c.as_slice.result.now c.as_slice-2.result.now (Err c.in-Err.fault)) same (record {
         writes = c.in-Err.ensures.written v seen;
         too_long = c.in-Err.ensures.too_long v seen;
+        shared = c.in-Err.ensures.shared v seen;
         tested = tested_seen (g.F.Folder.told c.learn.new.folder) told' (λ w. IsOfPlacing c.in-Err.fault × PassesResume resuming.work c.as_slice.result.now c.as_slice-2.result.now w) v seen c.in-Err.ensures.tested;
         undrawn = elim c.in-Err.ensures.undrawn [ inl none ↦ inl none | inr passed ↦ inr (passed v seen) ];
       });

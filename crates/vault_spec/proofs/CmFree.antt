@@ -164,8 +164,8 @@ cm_places_free vault texts v front dir name item drawn at clean leads named none
     folders_untaken homed is =
         let home : (at ≡ content_folder vault.keys (id_of drawn)) × (v (content_folder vault.keys (id_of drawn)) ≢ NoEntry)
         = taken_there (content_folder vault.keys (id_of drawn)) at (v (content_folder vault.keys (id_of drawn)))
-            (sym (or_none (taken_at (content_folder vault.keys (id_of drawn)) (v (content_folder vault.keys (id_of drawn)))))
-            ∙ ap (λ o. option_or (taken_at (content_folder vault.keys (id_of drawn)) (v (content_folder vault.keys (id_of drawn)))) o) (sym (shelf_untaken vault v (id_of drawn) clean)) ∙ is) in
+        (sym (or_none (taken_at (content_folder vault.keys (id_of drawn)) (v (content_folder vault.keys (id_of drawn)))))
+        ∙ ap (λ o. option_or (taken_at (content_folder vault.keys (id_of drawn)) (v (content_folder vault.keys (id_of drawn)))) o) (sym (shelf_untaken vault v (id_of drawn) clean)) ∙ is) in
         home.1 (folder_free vault texts v (id_of drawn) clean (subst (IsTidyAt (cm_format vault) v) home.0 tidy) homed)
 
     by_item : (item : NewItem) → (item ≡ NewDirectory → (other : Directory) → IsReached (cm_format vault) v other → other.folder ≢ content_folder vault.keys (id_of drawn))

@@ -369,8 +369,7 @@ returns-in_err-write-clause-journal g c =
     let told = g.F.Folder.told c.args.folder.now in
     let here = g.F.Folder.told c.enter.new.folder in
     let written = g.F.Folder.told c.write.new.folder in
-    let Trees = HaveMappedTree rule from to in
-    (
+    let Trees = HaveMappedTree rule from to in (
       items,
       subst (λ (j : Journal). BringsTexts Trees work j told written) (is_new g (goal.at.returns-in_err-write-clause-journal g c).After-write)
           (brings_then Trees work c.in_ok-journal.journal told here written (texts_entered work c.in_ok-journal.journal told here c.enter.ensures.enters.moments) (brings_written Trees work c.in_ok-journal.journal here written c.write.ensures.moments)),
@@ -388,8 +387,7 @@ returns-clause-journal g c =
     let here = g.F.Folder.told c.enter.new.folder in
     let written = g.F.Folder.told c.write.new.folder in
     let after = g.F.Folder.told c.go_on.new.folder in
-    let Trees = HaveMappedTree rule from to in
-    (
+    let Trees = HaveMappedTree rule from to in (
       items,
       subst (λ (j : Journal). BringsTexts Trees work j told after) (is_new g (goal.at.returns-clause-journal g c).After-write)
           (brings_done Trees work j told written after (g.met.F.Folder.sound c.write.new.folder)

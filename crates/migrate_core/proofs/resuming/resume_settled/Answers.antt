@@ -202,8 +202,7 @@ module _ (g : Over) (c : After-resume_told g) where
       let work = c.args.work.now in
       let pass = c.args.source_pass.now in
       let pass' = c.args.target_pass.now in
-      let read = c.in_ok-journal.journal in
-      (
+      let read = c.in_ok-journal.journal in (
         told.0,
         record {
           journal = read;

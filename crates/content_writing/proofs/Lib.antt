@@ -1,4 +1,5 @@
 mod Sourced
+pub mod Takings
 mod Comings
 mod Drawing
 pub mod Sixteens

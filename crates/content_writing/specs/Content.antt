@@ -2,7 +2,7 @@
 --
 -- A content reads at most one file of the folder, at a path that it names. What is still to come is a function of what stands
 -- there, so that a change elsewhere leaves it.
-use Rattle.std.specs.Prelude.{◌≡◌, ◌≢◌, ℕ, Bool, zero, suc, nat_le, List, [], ◌++◌, take, length, Option, Some, None, Result, Ok, Err, if◌then◌else◌}
+use Rattle.std.specs.Prelude.{◌≡◌, ◌≢◌, ◌≤◌, ℕ, Bool, zero, suc, nat_le, List, [], ◌++◌, take, length, Option, Some, None, Result, Ok, Err, if◌then◌else◌}
 use Rattle.chunk_files.specs.declared.fault.ChunkFault.{ChunkFault}
 use Rattle.folder_spec.specs.Path.{Path}
 use Rattle.folder_spec.specs.Event.{Told}
@@ -107,6 +107,19 @@ Gave given (Some before) (Some after) = before ≡ bytes_before given after
 abbrev pub HasEnded : Ending → Option Coming → Option Coming → Type 0
 HasEnded ending None left = Unit {0}
 HasEnded ending (Some before) left = left ≡ Some (ends ending)
+
+-- ---- what is taken of a source
+
+-- at most so many bytes were taken of what a source had left, where it tells that
+abbrev pub TakesUpTo : ℕ → Option (List ℕ) → Option (List ℕ) → Type 0
+TakesUpTo most None left' = Unit {0}
+TakesUpTo most (Some left) None = ⊥
+TakesUpTo most (Some left) (Some left') = (taken : List ℕ) × (left ≡ taken ++ left') × (length taken ≤ most)
+
+-- a piece takes as many bytes as it gives, and where it fails, at most one
+abbrev pub most_taken : Result ℕ PutFault → ℕ
+most_taken (Ok count) = count
+most_taken (Err fault) = 1
 
 -- ---- the content of a source
 

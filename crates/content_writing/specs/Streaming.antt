@@ -1,5 +1,5 @@
 -- Words of private contracts: how far the writing of a content has come.
-use Rattle.std.specs.Prelude.{◌≡◌, ◌≢◌, ◌≤◌, ◌<◌, ℕ, ◌⊎◌, true, List, [], ◌++◌, length, Option, Result, Ok, Err, OnOk}
+use Rattle.std.specs.Prelude.{◌≡◌, ◌≢◌, ◌≤◌, ◌<◌, ℕ, suc, ◌⊎◌, true, List, [], ◌++◌, length, Option, Result, Ok, Err, OnOk}
 use Rattle.port_model.specs.Draws.{ByteStream, Draws}
 use Rattle.chunk_files.specs.declared.fault.EncodeFault.{EncodeFault}
 use Rattle.chunk_files.specs.declared.fault.EncodeFault.TheVariants as encodes
@@ -37,6 +37,11 @@ EndsGathering full gathered coming left (Err (puts.Taken at)) = ⊥
 pub record Gathers (full : ℕ) (gathered : List ℕ) (coming left : Option Coming) (result : Result (Unit {0}) PutFault) : Type 0 where
   pub gave : Gave gathered coming left
   pub ends : EndsGathering full gathered coming left result
+
+-- so many bytes are taken for those that are gathered, and one more where that ends by a fault
+abbrev pub most_gathered : Result (Unit {0}) PutFault → ℕ → ℕ
+most_gathered (Ok _) count = count
+most_gathered (Err fault) count = suc count
 
 -- ---- storing a header and chunks
 

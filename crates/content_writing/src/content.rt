@@ -1,10 +1,10 @@
 //! Contents that are given piece by piece.
-ghost use Rattle.std.specs.Prelude.{◌≡◌, ◌≤◌, ◌<◌, ◌+◌, ℕ, Option, Err, IfOk, IfErr};
+ghost use Rattle.std.specs.Prelude.{◌≡◌, ◌≤◌, ◌<◌, ◌+◌, ℕ, List, Option, Err, IfOk, IfErr};
 ghost use Rattle.std.specs.Borrow.{GName};
 ghost use Rattle.port_model.specs.Counts.{CountRose};
 ghost use Rattle.folder_spec.specs.Path.{Path};
 ghost use Rattle.folder_spec.specs.View.{Found};
-ghost use Rattle.content_writing.specs.Content.{Coming, Stands, IsReady, Gives, IsContentFault};
+ghost use Rattle.content_writing.specs.Content.{Coming, Stands, IsReady, Gives, IsContentFault, TakesUpTo, most_taken};
 ghost use Rattle.vault_faults.specs.Limits.{content_limit};
 
 use chunk_files::ChunkBuf;
@@ -24,6 +24,9 @@ pub trait Content<F: Folder> {
     /// How many bytes it may still give.
     ghost room: { Self → ℕ };
 
+    /// What the source that it reads has left, if it reads one that tells that.
+    ghost left: { Self → Option (List ℕ) };
+
     /// How many calls of the source that it reads have failed.
     ghost faults: { Self → ℕ };
 
@@ -41,6 +44,7 @@ pub trait Content<F: Folder> {
         ensures gives { (found : Found) → Stands (reads self.old) (F.told folder.old) found → Gives result out.new (coming self.old found) (coming self.new found) }
         ensures size { IfOk result (λ n. n ≤ most) }
         ensures room { IfOk result (λ n. n + room self.new ≤ room self.old) }
+        ensures taken { TakesUpTo (most_taken result) (left self.old) (left self.new) }
         ensures shrinks { room self.new ≤ room self.old }
         ensures fault { IfErr result (λ fault. IsContentFault (reads self.old) fault) }
         ensures failed { result ≡ Err PutFault.Failed → CountRose (F.faults folder.old) (F.faults folder.new) }

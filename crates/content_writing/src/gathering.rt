@@ -1,7 +1,7 @@
 //! Gathering the pieces of a content into chunks.
 ghost use Rattle.std.specs.Prelude.{◌≡◌, ◌≤◌, ◌+◌, length, IfErr};
-ghost use Rattle.content_writing.specs.Content.{IsContentFault, IsReady, still_coming};
-ghost use Rattle.content_writing.specs.Streaming.{Gathers};
+ghost use Rattle.content_writing.specs.Content.{IsContentFault, IsReady, TakesUpTo, still_coming};
+ghost use Rattle.content_writing.specs.Streaming.{Gathers, most_gathered};
 ghost use Rattle.content_writing.specs.Writing.{Blames};
 
 use crate::content::Content;
@@ -28,6 +28,7 @@ pub(crate) fn gather<F: Folder, C: Content<F>>(
     ensures fault { IfErr result (λ fault. IsContentFault (C.reads content.old) fault) }
     ensures size { length plain.new ≤ full }
     ensures room { length plain.new + C.room content.new ≤ C.room content.old }
+    ensures taken { TakesUpTo (most_gathered result (length plain.new)) (C.left content.old) (C.left content.new) }
     ensures failed { Blames result PutFault.Failed (F.faults folder.old) (F.faults folder.new) }
     ensures source { Blames result PutFault.Source (C.faults content.old) (C.faults content.new) }
 {

@@ -2,7 +2,7 @@
 ghost use Rattle.std.specs.Prelude.{◌≡◌, ◌≤◌, ◌+◌, ◌-◌, ◌<◌, ◌⊎◌, true, false, IfOk, IfErr, Err, length, take, []};
 ghost use Rattle.std.specs.Io.KnownBytes.{Consumes, IsAtEnd, Keeps};
 ghost use Rattle.port_model.specs.Counts.{CountRose};
-ghost use Rattle.content_writing.specs.Content.{coming_from, Gives};
+ghost use Rattle.content_writing.specs.Content.{Gives, TakesUpTo, coming_from, most_taken};
 ghost use Rattle.vault_faults.specs.Limits.{content_limit};
 
 use item_making::PutFault;
@@ -40,6 +40,7 @@ impl Room {
         ensures gives { Gives result out.new (coming_from self.old.bytes self.old.passed (I.left source.old)) (coming_from self.new.bytes self.new.passed (I.left source.new)) }
         ensures size { IfOk result (λ n. n ≤ most) }
         ensures room { IfOk result (λ n. n + self.new.bytes ≡ self.old.bytes) }
+        ensures taken { TakesUpTo (most_taken result) (I.left source.old) (I.left source.new) }
         ensures shrinks { self.new.bytes ≤ self.old.bytes }
         ensures fault { IfErr result (λ fault. (fault ≡ PutFault.Limit Limit.Input) ⊎ (fault ≡ PutFault.Source)) }
         ensures failed { result ≡ Err PutFault.Source → CountRose (I.faults source.old) (I.faults source.new) }
@@ -64,6 +65,7 @@ impl Room {
         ensures bytes { self.new.bytes ≡ 0 }
         ensures gives { Gives result [] (coming_from self.old.bytes self.old.passed (I.left source.old)) (coming_from self.new.bytes self.new.passed (I.left source.new)) }
         ensures none { IfOk result (λ n. n ≡ 0) }
+        ensures taken { TakesUpTo (most_taken result) (I.left source.old) (I.left source.new) }
         ensures fault { IfErr result (λ fault. (fault ≡ PutFault.Limit Limit.Input) ⊎ (fault ≡ PutFault.Source)) }
         ensures failed { result ≡ Err PutFault.Source → CountRose (I.faults source.old) (I.faults source.new) }
         ensures counted { I.faults source.old ≤ I.faults source.new }

@@ -41,6 +41,8 @@ impl<F: Folder, I: Source> Content<F> for SourceContent<'_, I> {
 
     ghost room = { λ c. c.room.bytes };
 
+    ghost left = { λ c. I.left c.source.now };
+
     ghost faults = { λ c. I.faults c.source.now };
 
     ghost lender = { λ c. c.source.ghost_name };

@@ -1,7 +1,7 @@
 //! Writing a content as a content file, one chunk at a time.
-ghost use Rattle.std.specs.Prelude.{◌≡◌, ◌≤◌, IfErr};
+ghost use Rattle.std.specs.Prelude.{◌≡◌, ◌≤◌, ◌+◌, IfErr};
 ghost use Rattle.folder_staging.specs.Places.{IsStage};
-ghost use Rattle.content_writing.specs.Content.{FitsContent, IsReady, still_coming};
+ghost use Rattle.content_writing.specs.Content.{FitsContent, IsReady, TakesUpTo, still_coming};
 ghost use Rattle.content_writing.specs.Writing.{Blames, ReadsApart, WritesContent};
 
 use crate::content::Content;
@@ -61,6 +61,7 @@ pub fn write_content<F: Folder, R: Randoms, C: Content<F>>(
     ensures fits { IfErr result (λ fault. FitsContent (C.reads content.old) fault) }
     ensures reads { C.reads content.new ≡ C.reads content.old }
     ensures room { C.room content.new ≤ C.room content.old }
+    ensures taken { TakesUpTo (C.room content.old + 1) (C.left content.old) (C.left content.new) }
     ensures lender { C.lender content.new ≡ C.lender content.old }
     ensures failed { Blames result PutFault.Failed (F.faults folder.old) (F.faults folder.new) }
     ensures source { Blames result PutFault.Source (C.faults content.old) (C.faults content.new) }
@@ -98,6 +99,7 @@ fn write_chunks<F: Folder, R: Randoms, C: Content<F>>(
     ensures fits { IfErr result (λ fault. FitsContent (C.reads content.old) fault) }
     ensures reads { C.reads content.new ≡ C.reads content.old }
     ensures room { C.room content.new ≤ C.room content.old }
+    ensures taken { TakesUpTo (C.room content.old + 1) (C.left content.old) (C.left content.new) }
     ensures lender { C.lender content.new ≡ C.lender content.old }
     ensures failed { Blames result PutFault.Failed (F.faults folder.old) (F.faults folder.new) }
     ensures source { Blames result PutFault.Source (C.faults content.old) (C.faults content.new) }

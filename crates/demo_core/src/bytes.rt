@@ -49,6 +49,8 @@ impl<F: Folder> Content<F> for MadeBytes {
 
     ghost room = { λ c. c.left };
 
+    ghost left = { λ c. None };
+
     ghost faults = { λ c. 0 };
 
     ghost lender = { λ c. 0 };

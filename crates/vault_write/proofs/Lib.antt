@@ -1,5 +1,6 @@
 mod Seeing
 mod Exits
+mod Takings
 mod TreesShown
 pub mod Runs
 mod Edited

@@ -48,6 +48,13 @@ IsOfMaking (puts.NotAllowed path) = ⊥
 IsOfMaking (puts.Taken at) = ⊥
 IsOfMaking fault = Unit {0}
 
+-- how many of so many bytes are taken of a content's source at most: none where the directory, the name or the place is refused
+abbrev pub most_by : Result (Unit {0}) PutFault → ℕ → ℕ
+most_by (Err (puts.Find fault)) most = 0
+most_by (Err (puts.NotAllowed path)) most = 0
+most_by (Err (puts.Taken at)) most = 0
+most_by result most = most
+
 -- Where a call is refused though the folder and memory serve, a region is as it was.
 abbrev pub IsUnpublished : (Path → Bool) → Option Told → Option Told → Result (Unit {0}) PutFault → Type 0
 IsUnpublished region before after (Ok _) = Unit {0}

@@ -1,14 +1,14 @@
 //! Making files, and replacing their contents.
-ghost use Rattle.std.specs.Prelude.{◌≡◌, ◌≢◌, ◌⊎◌, ◌≤◌, ◌∷◌, ◌++◌, [], None, Some, Option, List, ℕ, IsTrue, IfOk, IfErr, OnOk};
+ghost use Rattle.std.specs.Prelude.{◌≡◌, ◌≢◌, ◌⊎◌, ◌≤◌, ◌+◌, ◌∷◌, ◌++◌, [], None, Some, Option, List, ℕ, IsTrue, IfOk, IfErr, OnOk};
 ghost use Rattle.folder_spec.specs.Event.{Told, Allowed, Rename};
 ghost use Rattle.folder_model.specs.Answers.{CountsAbove};
 ghost use Rattle.folder_spec.specs.Seen.{IfSeen, ShowsFree, under};
 ghost use Rattle.plain_tree.specs.Names.{is_name};
 ghost use Rattle.vault_read.specs.Opened.{FitsKey, kind_of};
 ghost use Rattle.vault_spec.specs.Vault.{format_of};
-ghost use Rattle.content_writing.specs.Content.{FitsContent, IsReady, still_coming};
+ghost use Rattle.content_writing.specs.Content.{FitsContent, IsReady, TakesUpTo, still_coming};
 ghost use Rattle.content_writing.specs.Writing.{Blames, ReadsApart};
-ghost use Rattle.vault_write.specs.Calls.{IsAt, IsKept, MakesFile, New, InPlace, ReadsElsewhere, Writing};
+ghost use Rattle.vault_write.specs.Calls.{IsAt, IsKept, MakesFile, New, InPlace, ReadsElsewhere, Writing, most_by};
 ghost use Rattle.vault_write.specs.Editing.{GoPlaces, HasBegun};
 ghost use Rattle.vault_write.specs.Faults.{IsFileFault};
 ghost use Rattle.vault_write.specs.Filing.{StagesEntry, PlacesEntry, PlacesFile, PublishesEntry, MayReplace, ReplacesEntry, ReplacesContent, IsSlotOver, StandsAs, StandsUnder, IsAtDirectory, entry_making, file_of};
@@ -60,6 +60,7 @@ pub fn place_file<F: Folder, R: Randoms, C: Content<F>>(
     ensures fault { IfErr result (λ fault. IsFileFault (C.reads content.old) fault) }
     ensures reads { C.reads content.new ≡ C.reads content.old }
     ensures room { C.room content.new ≤ C.room content.old }
+    ensures taken { TakesUpTo (most_by result (C.room content.old + 1)) (C.left content.old) (C.left content.new) }
     ensures lender { C.lender content.new ≡ C.lender content.old }
     ensures failed { Blames result PutFault.Failed (F.faults folder.old) (F.faults folder.new) }
     ensures source { Blames result PutFault.Source (C.faults content.old) (C.faults content.new) }
@@ -91,6 +92,7 @@ pub fn place_file_keeping<F: Folder, R: Randoms, C: Content<F>>(
     ensures fault { IfErr result (λ fault. IsFileFault (C.reads content.old) fault) }
     ensures reads { C.reads content.new ≡ C.reads content.old }
     ensures room { C.room content.new ≤ C.room content.old }
+    ensures taken { TakesUpTo (most_by result (C.room content.old + 1)) (C.left content.old) (C.left content.new) }
     ensures lender { C.lender content.new ≡ C.lender content.old }
     ensures failed { Blames result PutFault.Failed (F.faults folder.old) (F.faults folder.new) }
     ensures source { Blames result PutFault.Source (C.faults content.old) (C.faults content.new) }
@@ -127,6 +129,7 @@ pub fn put<F: Folder, R: Randoms, C: Content<F>>(
     ensures fault { IfErr result (λ fault. IsFileFault (C.reads content.old) fault) }
     ensures reads { C.reads content.new ≡ C.reads content.old }
     ensures room { C.room content.new ≤ C.room content.old }
+    ensures taken { TakesUpTo (most_by result (C.room content.old + 1)) (C.left content.old) (C.left content.new) }
     ensures lender { C.lender content.new ≡ C.lender content.old }
     ensures failed { Blames result PutFault.Failed (F.faults folder.old) (F.faults folder.new) }
     ensures source { Blames result PutFault.Source (C.faults content.old) (C.faults content.new) }
@@ -173,6 +176,7 @@ fn put_named<F: Folder, R: Randoms, C: Content<F>>(
     ensures fault { IfErr result (λ fault. IsFileFault (C.reads content.old) fault) }
     ensures reads { C.reads content.new ≡ C.reads content.old }
     ensures room { C.room content.new ≤ C.room content.old }
+    ensures taken { TakesUpTo (most_by result (C.room content.old + 1)) (C.left content.old) (C.left content.new) }
     ensures lender { C.lender content.new ≡ C.lender content.old }
     ensures failed { Blames result PutFault.Failed (F.faults folder.old) (F.faults folder.new) }
     ensures source { Blames result PutFault.Source (C.faults content.old) (C.faults content.new) }
@@ -258,6 +262,7 @@ fn replace<F: Folder, R: Randoms, C: Content<F>>(
     ensures fault { IfErr result (λ fault. IsFileFault (C.reads content.old) fault) }
     ensures reads { C.reads content.new ≡ C.reads content.old }
     ensures room { C.room content.new ≤ C.room content.old }
+    ensures taken { TakesUpTo (most_by result (C.room content.old + 1)) (C.left content.old) (C.left content.new) }
     ensures lender { C.lender content.new ≡ C.lender content.old }
     ensures failed { Blames result PutFault.Failed (F.faults folder.old) (F.faults folder.new) }
     ensures source { Blames result PutFault.Source (C.faults content.old) (C.faults content.new) }
@@ -291,6 +296,7 @@ fn replace_entry<F: Folder, R: Randoms, C: Content<F>>(
     ensures fits { IfErr result (λ fault. FitsContent (C.reads content.old) fault) }
     ensures reads { C.reads content.new ≡ C.reads content.old }
     ensures room { C.room content.new ≤ C.room content.old }
+    ensures taken { TakesUpTo (C.room content.old + 1) (C.left content.old) (C.left content.new) }
     ensures lender { C.lender content.new ≡ C.lender content.old }
     ensures failed { Blames result PutFault.Failed (F.faults folder.old) (F.faults folder.new) }
     ensures source { Blames result PutFault.Source (C.faults content.old) (C.faults content.new) }
@@ -332,6 +338,7 @@ fn place_over<F: Folder, R: Randoms, C: Content<F>>(
     ensures fault { IfErr result (λ fault. IsFileFault (C.reads content.old) fault) }
     ensures reads { C.reads content.new ≡ C.reads content.old }
     ensures room { C.room content.new ≤ C.room content.old }
+    ensures taken { TakesUpTo (most_by result (C.room content.old + 1)) (C.left content.old) (C.left content.new) }
     ensures lender { C.lender content.new ≡ C.lender content.old }
     ensures failed { Blames result PutFault.Failed (F.faults folder.old) (F.faults folder.new) }
     ensures source { Blames result PutFault.Source (C.faults content.old) (C.faults content.new) }
@@ -377,6 +384,7 @@ fn place_named<F: Folder, R: Randoms, C: Content<F>>(
     ensures fault { IfErr result (λ fault. IsFileFault (C.reads content.old) fault) }
     ensures reads { C.reads content.new ≡ C.reads content.old }
     ensures room { C.room content.new ≤ C.room content.old }
+    ensures taken { TakesUpTo (most_by result (C.room content.old + 1)) (C.left content.old) (C.left content.new) }
     ensures lender { C.lender content.new ≡ C.lender content.old }
     ensures failed { Blames result PutFault.Failed (F.faults folder.old) (F.faults folder.new) }
     ensures source { Blames result PutFault.Source (C.faults content.old) (C.faults content.new) }
@@ -425,6 +433,7 @@ fn place_under<F: Folder, R: Randoms, C: Content<F>>(
     ensures fault { IfErr result (λ fault. IsFileFault (C.reads content.old) fault) }
     ensures reads { C.reads content.new ≡ C.reads content.old }
     ensures room { C.room content.new ≤ C.room content.old }
+    ensures taken { TakesUpTo (most_by result (C.room content.old + 1)) (C.left content.old) (C.left content.new) }
     ensures lender { C.lender content.new ≡ C.lender content.old }
     ensures failed { Blames result PutFault.Failed (F.faults folder.old) (F.faults folder.new) }
     ensures source { Blames result PutFault.Source (C.faults content.old) (C.faults content.new) }
@@ -460,6 +469,7 @@ fn place_in<F: Folder, R: Randoms, C: Content<F>>(
     ensures fault { IfErr result (λ fault. IsFileFault (C.reads content.old) fault) }
     ensures reads { C.reads content.new ≡ C.reads content.old }
     ensures room { C.room content.new ≤ C.room content.old }
+    ensures taken { TakesUpTo (most_by result (C.room content.old + 1)) (C.left content.old) (C.left content.new) }
     ensures lender { C.lender content.new ≡ C.lender content.old }
     ensures failed { Blames result PutFault.Failed (F.faults folder.old) (F.faults folder.new) }
     ensures source { Blames result PutFault.Source (C.faults content.old) (C.faults content.new) }
@@ -519,6 +529,7 @@ fn place_go<F: Folder, R: Randoms, C: Content<F>>(
     ensures fault { IfErr result (λ fault. IsFileFault (C.reads content.old) fault) }
     ensures reads { C.reads content.new ≡ C.reads content.old }
     ensures room { C.room content.new ≤ C.room content.old }
+    ensures taken { TakesUpTo (most_by result (C.room content.old + 1)) (C.left content.old) (C.left content.new) }
     ensures lender { C.lender content.new ≡ C.lender content.old }
     ensures failed { Blames result PutFault.Failed (F.faults folder.old) (F.faults folder.new) }
     ensures source { Blames result PutFault.Source (C.faults content.old) (C.faults content.new) }
@@ -560,6 +571,7 @@ fn place_cm<F: Folder, R: Randoms, C: Content<F>>(
     ensures fault { IfErr result (λ fault. IsFileFault (C.reads content.old) fault) }
     ensures reads { C.reads content.new ≡ C.reads content.old }
     ensures room { C.room content.new ≤ C.room content.old }
+    ensures taken { TakesUpTo (most_by result (C.room content.old + 1)) (C.left content.old) (C.left content.new) }
     ensures lender { C.lender content.new ≡ C.lender content.old }
     ensures failed { Blames result PutFault.Failed (F.faults folder.old) (F.faults folder.new) }
     ensures source { Blames result PutFault.Source (C.faults content.old) (C.faults content.new) }
@@ -600,6 +612,7 @@ fn place_entry<F: Folder, R: Randoms, C: Content<F>>(
     ensures fits { IfErr result (λ fault. FitsContent (C.reads content.old) fault) }
     ensures reads { C.reads content.new ≡ C.reads content.old }
     ensures room { C.room content.new ≤ C.room content.old }
+    ensures taken { TakesUpTo (C.room content.old + 1) (C.left content.old) (C.left content.new) }
     ensures lender { C.lender content.new ≡ C.lender content.old }
     ensures failed { Blames result PutFault.Failed (F.faults folder.old) (F.faults folder.new) }
     ensures source { Blames result PutFault.Source (C.faults content.old) (C.faults content.new) }
@@ -649,6 +662,7 @@ fn stage_entry<F: Folder, R: Randoms, C: Content<F>>(
     ensures fits { IfErr result (λ fault. FitsContent (C.reads content.old) fault) }
     ensures reads { C.reads content.new ≡ C.reads content.old }
     ensures room { C.room content.new ≤ C.room content.old }
+    ensures taken { TakesUpTo (C.room content.old + 1) (C.left content.old) (C.left content.new) }
     ensures lender { C.lender content.new ≡ C.lender content.old }
     ensures failed { Blames result PutFault.Failed (F.faults folder.old) (F.faults folder.new) }
     ensures source { Blames result PutFault.Source (C.faults content.old) (C.faults content.new) }
@@ -679,6 +693,7 @@ fn stage_folder<F: Folder, R: Randoms, C: Content<F>>(
     ensures fits { IfErr result (λ fault. FitsContent (C.reads content.old) fault) }
     ensures reads { C.reads content.new ≡ C.reads content.old }
     ensures room { C.room content.new ≤ C.room content.old }
+    ensures taken { TakesUpTo (C.room content.old + 1) (C.left content.old) (C.left content.new) }
     ensures lender { C.lender content.new ≡ C.lender content.old }
     ensures failed { Blames result PutFault.Failed (F.faults folder.old) (F.faults folder.new) }
     ensures source { Blames result PutFault.Source (C.faults content.old) (C.faults content.new) }

@@ -79,6 +79,8 @@ impl<F: Folder> Content<F> for VaultContent {
 
     ghost room = { λ c. c.room };
 
+    ghost left = { λ _. None };
+
     ghost faults = { λ _. 0 };
 
     ghost lender = { λ _. 0 };

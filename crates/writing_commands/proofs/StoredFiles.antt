@@ -1,9 +1,9 @@
 -- The input is stored as a file of a vault.
-use Rattle.std.proofs.Common.{◌≡◌, ℕ, Bool, true, false, List, [], length, take, Option, Some, None, Result, Ok, Err, OnOk, IfErr, refl, sym, ap, ◌∙◌, subst, nat_le, if◌then◌else◌, IsTrue}
+use Rattle.std.proofs.Common.{◌≡◌, ◌+◌, ℕ, Bool, true, false, List, [], length, take, Option, Some, None, Result, Ok, Err, OnOk, IfErr, refl, sym, ap, ◌∙◌, subst, nat_le, if◌then◌else◌, IsTrue}
 use Rattle.std.specs.Io.KnownBytes.{Keeps}
 use Rattle.chunk_files.specs.Keys.{Keys}
 use Rattle.item_making.specs.Ending.{Whole, TooLong}
-use Rattle.content_writing.specs.Content.{Coming, FitsContent, Gave, HasEnded, coming_from, ends, within}
+use Rattle.content_writing.specs.Content.{Coming, FitsContent, Gave, HasEnded, TakesUpTo, coming_from, ends, within}
 use Rattle.vault_faults.specs.Limits.{content_limit}
 use Rattle.item_making.specs.declared.fault.PutFault.{PutFault}
 use Rattle.item_making.specs.declared.fault.PutFault.TheVariants as puts
@@ -17,7 +17,7 @@ use Rattle.vault_faults.specs.declared.fault.FindFault.TheVariants as finds
 use Rattle.vault_faults.specs.declared.fault.Limit.TheVariants.{Input}
 use Rattle.vault_spec.specs.Making.{NewFile}
 use Rattle.vault_spec.specs.Vault.{Vault}
-use Rattle.vault_write.specs.Calls.{InPlace, MakesAt, MakesFile, TakesContent, Writing}
+use Rattle.vault_write.specs.Calls.{InPlace, MakesAt, MakesFile, TakesContent, Writing, most_by}
 use Rattle.vault_write.specs.Faults.{IsFileFault}
 use Rattle.work_folder.specs.Entering.{EntersAs, IsFresh}
 use Rattle.open_for_changing.proofs.Beginnings.{Alike, Outside}
@@ -117,8 +117,8 @@ module _ (change : Change) where
       → IfSeen before.told (λ v. Opens v change.target.vault change.target.pass vault.vault) → IfSeen before.told (λ v. EntersAs v change.work (Ok tt))
       → answer ≡ answer_to_making result → room ≡ content_limit → passed ≡ false
       → MakesFile InPlace vault work change.target.path (coming_from room passed before.left) (coming_from room' passed' after.left) before.random after.random u after.told result
-      → IfErr result (λ fault. IsFileFault None fault) → Keeps before.taken after.taken → StoresFile change answer before after
-  file_made outside alike vault work answer result u before after room room' passed passed' sound apart is_root is_work begins sound_then leaves fresh opens entered is full unpassed makes fits unwritten =
+      → IfErr result (λ fault. IsFileFault None fault) → TakesUpTo (most_by result (room + 1)) before.left after.left → Keeps before.taken after.taken → StoresFile change answer before after
+  file_made outside alike vault work answer result u before after room room' passed passed' sound apart is_root is_work begins sound_then leaves fresh opens entered is full unpassed makes fits few unwritten =
       let writing : Writing = makes.writing in
       let there : OpenedVault = record { root = change.target.vault; vault = vault.vault } in
       let at_root : MakesAt InPlace there work change.target.path (NewFile writing.content) writing.ending writing.drawn u after.told result =
@@ -139,4 +139,5 @@ module _ (change : Change) where
         makes = made;
         takes = input_taken _ writing answer room room' passed passed' before.left after.left before.random after.random result full unpassed is makes.takes;
         fits = blamed_as_input result fits;
+        few = subst (λ (most : ℕ). TakesUpTo (most_by result (most + 1)) before.left after.left) full few;
       }) (making_leaves InPlace there change.work change.target.path (NewFile writing.content) writing.ending writing.drawn u after.told result at_work apart before.told leaves entered) unwritten

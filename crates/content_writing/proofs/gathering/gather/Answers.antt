@@ -1,10 +1,11 @@
-use Rattle.std.proofs.Common.{◌≡◌, ◌≤◌, ◌+◌, ◌-◌, ◌++◌, ℕ, List, length, take, Err, Ok, sym, ap, subst, ◌∙◌, arith}
+use Rattle.std.proofs.Common.{suc, ◌≡◌, ◌≤◌, ◌+◌, ◌-◌, ◌++◌, ℕ, List, length, take, Err, Ok, sym, ap, subst, ◌∙◌, arith}
 use Rattle.std.proofs.lemmas.List.{length-append, length-take-le}
 use Rattle.std.proofs.lemmas.Result.{err_from_is_err_and}
 use Rattle.folder_model.proofs.Counting.{rose_since}
 use Rattle.content_writing.specs.Content.{Gave, IsContentFault, still_coming}
 use Rattle.item_making.specs.declared.fault.PutFault.TheVariants as put
 use Rattle.content_writing.proofs.Comings.{gives_still, piece_fails, piece_more, piece_last}
+use Rattle.content_writing.proofs.Takings.{takes_more}
 use Rattle.content_writing.proofs.gathering.gather.Goals as goal
 
 pub returns-in_err-size : goal.returns-in_err-size
@@ -26,6 +27,7 @@ returns-in_err-size g c =
       fault = subst (λ reads. IsContentFault reads why) i.reads e.fault;
       size = i.size;
       room = omega (arith, i.room, e.shrinks);
+      taken = takes_more (length c.pieces.plain) 1 (suc (length c.pieces.plain)) _ _ _ (omega arith) i.taken e.taken;
       failed = (omega (arith, i.failed, e.grows), λ same. rose_since _ _ _ i.failed (e.failed (let is : why ≡ put.Failed = cc same in ap Err is)));
       source = (omega (arith, i.source, e.counted), λ same. rose_since _ _ _ i.source (e.source (let is : why ≡ put.Source = cc same in ap Err is)));
     })
@@ -47,6 +49,7 @@ returns-then-size-eq0 g c =
       fault = tt;
       size = i.size;
       room = omega (arith, i.room, e.shrinks);
+      taken = takes_more (length c.pieces.plain) c.in_ok-size.size (length c.pieces.plain) _ _ _ (omega (arith, c.if-size-eq0.true)) i.taken e.taken;
       failed = (omega (arith, i.failed, e.grows), λ same. cc same);
       source = (omega (arith, i.source, e.counted), λ same. cc same);
     }
@@ -76,6 +79,7 @@ pieces-preserved g c =
           i.gave n gives);
       size = omega (arith, size, within, held, i.size);
       room = omega (arith, size, e.room, i.room);
+      taken = takes_more (length c.pieces.plain) n (length c.push.new.self) _ _ _ (omega (arith, size)) i.taken e.taken;
       failed = omega (arith, i.failed, e.grows);
       source = omega (arith, i.source, e.counted);
     }
@@ -97,6 +101,9 @@ returns-clause-size g c = c.pieces.invariant.size
 
 pub returns-clause-room : goal.returns-clause-room
 returns-clause-room g c = c.pieces.invariant.room
+
+pub returns-clause-taken : goal.returns-clause-taken
+returns-clause-taken g c = c.pieces.invariant.taken
 
 pub returns-clause-failed : goal.returns-clause-failed
 returns-clause-failed g c = (c.pieces.invariant.failed, λ same. cc same)

@@ -1,5 +1,5 @@
 use Rattle.std.proofs.Common.{◌≡◌, ◌≤◌, ◌+◌, length}
-use Rattle.content_writing.specs.Content.{IsReady, Gave, still_coming}
+use Rattle.content_writing.specs.Content.{IsReady, Gave, TakesUpTo, still_coming}
 use Rattle.content_writing.proofs.gathering.gather.Given as goal
 
 -- what was gathered so far was given of what was to come
@@ -13,6 +13,7 @@ invariant-pieces g l = record {
       (still_coming (g.C.Content.reads l.fn.content) (g.F.Folder.told l.fn.folder) (g.C.Content.coming l.content));
   size : length l.plain ≤ l.full;
   room : length l.plain + g.C.Content.room l.content ≤ g.C.Content.room l.fn.content;
+  taken : TakesUpTo (length l.plain) (g.C.Content.left l.fn.content) (g.C.Content.left l.content);
   failed : g.F.Folder.faults l.fn.folder ≤ g.F.Folder.faults l.folder;
   source : g.C.Content.faults l.fn.content ≤ g.C.Content.faults l.content;
 }

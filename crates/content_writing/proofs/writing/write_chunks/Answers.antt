@@ -1,4 +1,4 @@
-use Rattle.std.proofs.Common.{◌≡◌, ℕ, List, length, Option, Result, Err, Ok, sym, ap, ◌∙◌, subst, arith}
+use Rattle.std.proofs.Common.{◌≡◌, ◌+◌, ◌-◌, ℕ, suc, List, length, Option, Result, Err, Ok, sym, ap, ◌∙◌, subst, arith}
 use Rattle.std.proofs.lemmas.Result.{err_from_is_err_and}
 use Rattle.chunk_files.specs.declared.keys.Layout.{Layout}
 use Rattle.chunk_files.specs.Keys.{Keys, format_of, full_size}
@@ -13,6 +13,7 @@ use Rattle.content_writing.proofs.Blaming.{blames_at, content_fits, fits_at, fol
 use Rattle.content_writing.proofs.Drawing.{full_is, some_full}
 use Rattle.content_writing.proofs.Standing.{IsStill, staged_still, still_same, ready_now, ready_before}
 use Rattle.content_writing.proofs.Underway.{first_fails, begin_fails, has_begun, next_fails, next_underway, store_fails, finish_fails, is_written, staged_seen}
+use Rattle.content_writing.proofs.Takings.{takes_fewer, takes_more}
 use Rattle.content_writing.proofs.writing.write_chunks.Goals as goal
 
 full_at : (keys : Keys) (layout : Layout) (full : ℕ) → layout ≡ keys.layout → full ≡ full_size layout → full ≡ (format_of keys).full_size
@@ -82,6 +83,7 @@ chunks-init g c =
           (subst (λ (t : Option Told). IsReady (g.C.Content.reads c.gather.new.content) t (g.C.Content.coming c.gather.new.content)) e.told e.ready);
       lender = e.lender;
       room = omega (arith, e.room);
+      taken = takes_fewer (length c.gather.new.plain) (g.C.Content.room c.args.content.now - g.C.Content.room c.gather.new.content) _ _ (omega (arith, e.room)) e.taken;
       few = omega (arith, begun.ends.0.few, e.room, g.met.C.Content.fits c.args.content.now);
       failed = omega (arith, e.failed.0, c.in_ok-begin_content.ensures.failed.0);
       source = e.source.0;
@@ -172,6 +174,8 @@ chunks-preserved g c =
           (subst (λ (r : Option Path). IsReady r told1 (g.C.Content.coming c.gather-in-chunks.new.content)) same_reads e.ready);
       lender = e.lender ∙ i.lender;
       room = omega (arith, e.room, i.room);
+      taken = takes_more (g.C.Content.room c.args.content.now - g.C.Content.room c.chunks.content) (length more) (g.C.Content.room c.args.content.now - g.C.Content.room c.gather-in-chunks.new.content) _ _ _
+          (omega (arith, e.room, i.room)) i.taken e.taken;
       few = omega (arith, s.number, ap length same, e.room, i.few);
       failed = omega (arith, i.failed, e.failed.0, s.failed.0);
       source = omega (arith, i.source, e.source.0);
@@ -285,3 +289,29 @@ pub returns-in_err-finish_file-clause-fits : goal.returns-in_err-finish_file-cla
 returns-in_err-finish_file-clause-fits g c =
     let reads = g.C.Content.reads c.args.content.now in
     fits_at reads c.from_residual-in_err-finish_file.result _ c.from_residual-in_err-finish_file.ensures.1 (folder_fits reads c.in_err-finish_file.field-0.0)
+
+pub returns-in_err-gather-clause-taken : goal.returns-in_err-gather-clause-taken
+returns-in_err-gather-clause-taken g c =
+    takes_fewer (suc (length c.gather.new.plain)) (g.C.Content.room c.args.content.now + 1) _ _ (omega (arith, c.in_err-gather.ensures.room)) c.in_err-gather.ensures.taken
+
+pub returns-in_err-begin_content-clause-taken : goal.returns-in_err-begin_content-clause-taken
+returns-in_err-begin_content-clause-taken g c =
+    takes_fewer (length c.gather.new.plain) (g.C.Content.room c.args.content.now + 1) _ _ (omega (arith, c.in_ok-gather.ensures.room)) c.in_ok-gather.ensures.taken
+
+pub returns-in_err-gather-2-clause-taken : goal.returns-in_err-gather-2-clause-taken
+returns-in_err-gather-2-clause-taken g c =
+    takes_more (g.C.Content.room c.args.content.now - g.C.Content.room c.chunks.content) (suc (length c.gather-in-chunks.new.plain)) (g.C.Content.room c.args.content.now + 1) _ _ _
+    (omega (arith, c.in_err-gather-2.ensures.room, c.chunks.invariant.room)) c.chunks.invariant.taken c.in_err-gather-2.ensures.taken
+
+pub returns-in_err-store_chunk-clause-taken : goal.returns-in_err-store_chunk-clause-taken
+returns-in_err-store_chunk-clause-taken g c =
+    takes_more (g.C.Content.room c.args.content.now - g.C.Content.room c.chunks.content) (length c.gather-in-chunks.new.plain) (g.C.Content.room c.args.content.now + 1) _ _ _
+    (omega (arith, c.in_ok-gather-2.ensures.room, c.chunks.invariant.room)) c.chunks.invariant.taken c.in_ok-gather-2.ensures.taken
+
+pub returns-in_err-finish_file-clause-taken : goal.returns-in_err-finish_file-clause-taken
+returns-in_err-finish_file-clause-taken g c =
+    takes_fewer (g.C.Content.room c.args.content.now - g.C.Content.room c.chunks.content) (g.C.Content.room c.args.content.now + 1) _ _ (omega arith) c.chunks.invariant.taken
+
+pub returns-clause-taken : goal.returns-clause-taken
+returns-clause-taken g c =
+    takes_fewer (g.C.Content.room c.args.content.now - g.C.Content.room c.chunks.content) (g.C.Content.room c.args.content.now + 1) _ _ (omega arith) c.chunks.invariant.taken

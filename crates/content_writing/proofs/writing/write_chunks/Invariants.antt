@@ -1,5 +1,5 @@
-use Rattle.std.proofs.Common.{◌≡◌, ◌≤◌, ◌+◌, length}
-use Rattle.content_writing.specs.Content.{IsReady, still_coming}
+use Rattle.std.proofs.Common.{◌≡◌, ◌≤◌, ◌+◌, ◌-◌, length}
+use Rattle.content_writing.specs.Content.{IsReady, TakesUpTo, still_coming}
 use Rattle.vault_faults.specs.Limits.{content_limit}
 use Rattle.content_writing.specs.Streaming.{IsUnderway}
 use Rattle.content_writing.proofs.writing.write_chunks.Given as goal
@@ -19,6 +19,7 @@ invariant-chunks g l = record {
   ready : IsReady (g.C.Content.reads l.fn.content) (g.F.Folder.told l.fn.folder) (g.C.Content.coming l.content);
   lender : g.C.Content.lender l.content ≡ g.C.Content.lender l.fn.content;
   room : g.C.Content.room l.content ≤ g.C.Content.room l.fn.content;
+  taken : TakesUpTo (g.C.Content.room l.fn.content - g.C.Content.room l.content) (g.C.Content.left l.fn.content) (g.C.Content.left l.content);
   few : l.encoder.number + g.C.Content.room l.content ≤ content_limit;
   failed : g.F.Folder.faults l.fn.folder ≤ g.F.Folder.faults l.folder;
   source : g.C.Content.faults l.fn.content ≤ g.C.Content.faults l.content;

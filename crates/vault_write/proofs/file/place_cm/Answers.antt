@@ -1,7 +1,9 @@
+use Rattle.std.proofs.Common.{◌+◌}
 use Rattle.content_writing.specs.Content.{still_coming}
 use Rattle.vault_write.proofs.FileBegun.{cm_file_places}
 use Rattle.vault_write.proofs.FileMade.{cm_begins, cm_placed}
 use Rattle.vault_write.proofs.Filing.{reads_outside}
+use Rattle.vault_write.proofs.Takings.{placed_takes}
 use Rattle.vault_write.proofs.file.place_cm.Goals as goal
 
 pub place_entry-requires-clause-begun : goal.place_entry-requires-clause-begun
@@ -25,3 +27,6 @@ returns-clause-made g c =
     c.args.slot.now.at c.args.slot.now.side c.args.slot.now.full (g.F.Folder.told c.args.folder.now) (g.met.F.Folder.sound c.args.folder.now) c.requires.may c.requires.slot
     c.requires.kind (still_coming (g.C.Content.reads c.args.content.now) (g.F.Folder.told c.args.folder.now) (g.C.Content.coming c.args.content.now)) (still_coming (g.C.Content.reads c.args.content.now) (g.F.Folder.told c.args.folder.now) (g.C.Content.coming c.place_entry.new.content)) (g.R.Randoms.left c.args.random.now) (g.R.Randoms.left c.place_entry.new.random) (g.F.Folder.told c.place_entry.new.folder) c.place_entry.result
     c.place_entry.ensures.made
+
+pub returns-clause-taken : goal.returns-clause-taken
+returns-clause-taken g c = placed_takes c.place_entry.result (g.C.Content.room c.args.content.now + 1) (g.C.Content.left c.args.content.now) (g.C.Content.left c.place_entry.new.content) c.place_entry.ensures.made c.place_entry.ensures.taken

@@ -1,9 +1,10 @@
-use Rattle.std.proofs.Common.{◌∙◌, Some, sym, codes, refl, arith}
+use Rattle.std.proofs.Common.{◌+◌, ◌∙◌, Some, sym, codes, refl, arith}
 use Rattle.folder_spec.proofs.Paths.{child-not_base}
 use Rattle.work_folder.specs.Entries.{stage_path}
 use Rattle.item_making.specs.Faults.{of_folder}
 use Rattle.item_making.specs.declared.fault.PutFault.TheVariants as puts
 use Rattle.content_writing.proofs.Blaming.{blames_at, fits_at, folder_blames, folder_fits, folder_undrawn, folder_unread}
+use Rattle.content_writing.proofs.Takings.{takes_none}
 use Rattle.vault_spec.specs.Vault.{format_of}
 use Rattle.vault_write.specs.Filing.{entry_files, entry_view, file_of}
 use Rattle.vault_write.proofs.Directories.{directory_free}
@@ -20,6 +21,7 @@ returns-in_err-entry g c =
       fits = fits_at (g.C.Content.reads c.args.content.now) result puts.NoMemory by_fault tt;
       reads = refl;
       room = omega arith;
+      taken = takes_none (g.C.Content.room c.args.content.now + 1) (g.C.Content.left c.args.content.now);
       lender = refl;
       failed = unblamed result puts.NoMemory puts.Failed by_fault (λ same. cc same) (omega arith);
       source = unblamed result puts.NoMemory puts.Source by_fault (λ same. cc same) (omega arith);
@@ -46,6 +48,7 @@ returns-in_err-stage_entry g c =
       fits = fits_at (g.C.Content.reads c.args.content.now) result fault by_fault e.fits;
       reads = e.reads;
       room = e.room;
+      taken = e.taken;
       lender = e.lender;
       failed = blames_at result fault puts.Failed _ _ by_fault e.failed;
       source = blames_at result fault puts.Source _ _ by_fault e.source;
@@ -70,6 +73,7 @@ returns-in_err-publish_side g c =
       fits = fits_at (g.C.Content.reads c.args.content.now) result (of_folder fault) by_fault (folder_fits (g.C.Content.reads c.args.content.now) fault);
       reads = before.reads;
       room = before.room;
+      taken = before.taken;
       lender = before.lender;
       failed = blames_at result (of_folder fault) puts.Failed _ _ by_fault (folder_blames _ _ _ fault before.failed.0 c.in_err-publish_side.ensures.counts);
       source = unblamed result (of_folder fault) puts.Source by_fault (folder_unread fault) before.source.0;
@@ -95,6 +99,7 @@ returns-in_err-publish_entry g c =
       fits = fits_at (g.C.Content.reads c.args.content.now) result (of_folder fault) by_fault (folder_fits (g.C.Content.reads c.args.content.now) fault);
       reads = before.reads;
       room = before.room;
+      taken = before.taken;
       lender = before.lender;
       failed = blames_at result (of_folder fault) puts.Failed _ _ by_fault (folder_blames _ _ _ fault (omega (arith, before.failed.0, c.in_ok-publish_side.ensures.counts)) c.in_err-publish_entry.ensures.counts);
       source = unblamed result (of_folder fault) puts.Source by_fault (folder_unread fault) before.source.0;

@@ -1,6 +1,7 @@
-use Rattle.std.proofs.Common.{refl, subst, arith}
+use Rattle.std.proofs.Common.{◌+◌, Err, refl, subst, arith}
+use Rattle.content_writing.proofs.Takings.{takes_none}
 use Rattle.item_making.specs.declared.fault.PutFault.TheVariants as puts
-use Rattle.vault_write.specs.Calls.{New}
+use Rattle.vault_write.specs.Calls.{New, most_by}
 use Rattle.vault_write.proofs.DirectoryPlaced.{last_name, no_names}
 use Rattle.vault_write.proofs.FileMade.{named_file, root_file, root_fits}
 use Rattle.vault_write.proofs.ItemMade.{IsRootFault, root_blames}
@@ -16,6 +17,7 @@ returns-in-empty g c =
       fault = root_fits (g.C.Content.reads c.args.content.now) New c.args.vault.now.root c.taken.result is;
       reads = refl;
       room = omega arith;
+      taken = takes_none (most_by (Err c.taken.result) (g.C.Content.room c.args.content.now + 1)) (g.C.Content.left c.args.content.now);
       lender = refl;
       failed = root_blames New c.args.vault.now.root c.taken.result puts.Failed tt is;
       source = root_blames New c.args.vault.now.root c.taken.result puts.Source tt is;

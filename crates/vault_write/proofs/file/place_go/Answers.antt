@@ -1,11 +1,14 @@
+use Rattle.std.proofs.Common.{◌+◌}
 use Rattle.content_writing.specs.Content.{still_coming}
+use Rattle.content_writing.proofs.Takings.{takes_none}
 use Rattle.vault_spec.specs.Making.{NewFile}
-use Rattle.vault_write.specs.Calls.{New}
+use Rattle.vault_write.specs.Calls.{New, most_by}
 use Rattle.vault_write.proofs.Exits.{place_drew}
 use Rattle.vault_write.proofs.FileBegun.{file_places}
 use Rattle.vault_write.proofs.FileMade.{file_refused, go_begins, go_placed, placed_at}
 use Rattle.vault_write.proofs.Filing.{reads_outside}
 use Rattle.vault_write.proofs.Found.{side_refused}
+use Rattle.vault_write.proofs.Takings.{placed_takes}
 use Rattle.vault_write.proofs.file.place_go.Goals as goal
 
 pub returns-in_err-wants-clause-made : goal.returns-in_err-wants-clause-made
@@ -42,3 +45,9 @@ returns-clause-made g c =
     (still_coming (g.C.Content.reads c.args.content.now) (g.F.Folder.told c.wants_side.new.folder) (g.C.Content.coming c.args.content.now)) (still_coming (g.C.Content.reads c.args.content.now) (g.F.Folder.told c.wants_side.new.folder) (g.C.Content.coming c.place_entry.new.content))
     (g.R.Randoms.left c.args.random.now) (g.R.Randoms.left c.place_entry.new.random) (g.F.Folder.told c.place_entry.new.folder) c.place_entry.result
     c.place_entry.ensures.made)
+
+pub returns-in_err-wants-clause-taken : goal.returns-in_err-wants-clause-taken
+returns-in_err-wants-clause-taken g c = takes_none (most_by c.from_residual.result (g.C.Content.room c.args.content.now + 1)) (g.C.Content.left c.args.content.now)
+
+pub returns-clause-taken : goal.returns-clause-taken
+returns-clause-taken g c = placed_takes c.place_entry.result (g.C.Content.room c.args.content.now + 1) (g.C.Content.left c.args.content.now) (g.C.Content.left c.place_entry.new.content) c.place_entry.ensures.made c.place_entry.ensures.taken

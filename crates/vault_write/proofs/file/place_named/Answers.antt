@@ -1,5 +1,7 @@
+use Rattle.std.proofs.Common.{◌+◌}
+use Rattle.content_writing.proofs.Takings.{takes_none}
 use Rattle.vault_spec.specs.Making.{NewFile}
-use Rattle.vault_write.specs.Calls.{New}
+use Rattle.vault_write.specs.Calls.{New, most_by}
 use Rattle.vault_write.specs.Slots.{placing}
 use Rattle.vault_write.proofs.Exits.{place_drew}
 use Rattle.vault_write.proofs.FileMade.{file_refused, placed_at}
@@ -29,3 +31,6 @@ returns-clause-kept g c =
     kept_on New (placing c.args.vault.now c.args.work.now c.args.front.now c.args.name.now (NewFile made.writing.content)) made.writing.ending made.writing.drawn
     (g.F.Folder.told c.kept_or_entered.new.folder) (g.F.Folder.told c.place_under-result.new.folder) c.in_ok-here.here c.place_under-result.result made.one
     c.in_ok-here.ensures.key c.in_ok-here.ensures.path (rw c.kept_or_entered.ensures.told c.in_ok-here.ensures.place)
+
+pub returns-in_err-here-clause-taken : goal.returns-in_err-here-clause-taken
+returns-in_err-here-clause-taken g c = takes_none (most_by c.from_residual.result (g.C.Content.room c.args.content.now + 1)) (g.C.Content.left c.args.content.now)

@@ -1,5 +1,7 @@
+use Rattle.std.proofs.Common.{◌+◌}
+use Rattle.content_writing.proofs.Takings.{takes_none}
 use Rattle.vault_spec.specs.Making.{NewFile}
-use Rattle.vault_write.specs.Calls.{New}
+use Rattle.vault_write.specs.Calls.{New, most_by}
 use Rattle.vault_write.proofs.Exits.{place_drew}
 use Rattle.vault_write.proofs.FileMade.{file_refused, placed_at}
 use Rattle.vault_write.proofs.file.place_under.Goals as goal
@@ -18,3 +20,6 @@ place_in-requires-clause-slot g c = rw c.slot_at.ensures.told c.in_ok-slot.ensur
 
 pub returns-clause-made : goal.returns-clause-made
 returns-clause-made g c = placed_at (g.C.Content.reads c.args.content.now) (g.C.Content.coming c.args.content.now) (g.C.Content.coming c.place_in.new.content) c.slot_at.ensures.told c.place_in.ensures.made
+
+pub returns-in_err-slot-clause-taken : goal.returns-in_err-slot-clause-taken
+returns-in_err-slot-clause-taken g c = takes_none (most_by c.from_residual.result (g.C.Content.room c.args.content.now + 1)) (g.C.Content.left c.args.content.now)

@@ -1,7 +1,8 @@
-use Rattle.std.proofs.Common.{◌≡◌, ◌⊎◌, refl, subst, arith}
+use Rattle.std.proofs.Common.{◌+◌, Err, ◌≡◌, ◌⊎◌, refl, subst, arith}
+use Rattle.content_writing.proofs.Takings.{takes_none}
 use Rattle.item_making.specs.declared.fault.PutFault.TheVariants as puts
 use Rattle.vault_faults.specs.declared.fault.FindFault.TheVariants as finds
-use Rattle.vault_write.specs.Calls.{InPlace}
+use Rattle.vault_write.specs.Calls.{InPlace, most_by}
 use Rattle.vault_write.proofs.DirectoryPlaced.{last_name, no_names}
 use Rattle.vault_write.proofs.FileMade.{named_file, root_file, root_fits}
 use Rattle.vault_write.proofs.ItemMade.{root_blames}
@@ -16,6 +17,7 @@ returns-in-empty g c =
       fault = root_fits (g.C.Content.reads c.args.content.now) InPlace c.args.vault.now.root c.wrong_kind.result is;
       reads = refl;
       room = omega arith;
+      taken = takes_none (most_by (Err c.wrong_kind.result) (g.C.Content.room c.args.content.now + 1)) (g.C.Content.left c.args.content.now);
       lender = refl;
       failed = root_blames InPlace c.args.vault.now.root c.wrong_kind.result puts.Failed tt is;
       source = root_blames InPlace c.args.vault.now.root c.wrong_kind.result puts.Source tt is;

@@ -1,9 +1,10 @@
-use Rattle.std.proofs.Common.{Some, None, sym, subst, ◌∙◌}
+use Rattle.std.proofs.Common.{◌+◌, Some, None, sym, subst, ◌∙◌}
 use Rattle.folder_spec.specs.Seen.{IfSeen, under}
+use Rattle.content_writing.proofs.Takings.{takes_none}
 use Rattle.vault_spec.specs.Making.{NewFile}
 use Rattle.vault_spec.specs.Standing.{standing}
 use Rattle.vault_spec.specs.Vault.{format_of}
-use Rattle.vault_write.specs.Calls.{InPlace}
+use Rattle.vault_write.specs.Calls.{InPlace, most_by}
 use Rattle.vault_write.specs.Filing.{IsAtDirectory, StandsAs}
 use Rattle.vault_write.proofs.Counted.{directory_is_place_fault}
 use Rattle.vault_write.proofs.Exits.{place_drew}
@@ -51,3 +52,9 @@ returns-clause-made g c =
     (stands_then c.args.vault.now c.args.path.now c.args.front.now c.args.name.now None (g.F.Folder.told c.slot_over.new.folder) (g.F.Folder.told c.args.folder.now) c.requires.path (sym c.slot_over.ensures.told)
     (subst (λ file. IfSeen (g.F.Folder.told c.slot_over.new.folder) (λ v. StandsAs c.args.vault.now.root (standing (format_of c.args.vault.now.vault) (under c.args.vault.now.root v) c.args.path.now) file)) c.in-None.is c.in_ok-at.ensures.file))
     (placed_at (g.C.Content.reads c.args.content.now) (g.C.Content.coming c.args.content.now) (g.C.Content.coming c.place_over.new.content) (c.standing_file.ensures.told ∙ c.slot_over.ensures.told) c.place_over.ensures.made)
+
+pub returns-in_err-slot-clause-taken : goal.returns-in_err-slot-clause-taken
+returns-in_err-slot-clause-taken g c = takes_none (most_by c.from_residual.result (g.C.Content.room c.args.content.now + 1)) (g.C.Content.left c.args.content.now)
+
+pub returns-in_err-at-clause-taken : goal.returns-in_err-at-clause-taken
+returns-in_err-at-clause-taken g c = takes_none (most_by c.from_residual-in_err-at.result (g.C.Content.room c.args.content.now + 1)) (g.C.Content.left c.args.content.now)

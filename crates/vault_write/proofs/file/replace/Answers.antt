@@ -1,14 +1,16 @@
-use Rattle.std.proofs.Common.{Err, refl}
+use Rattle.std.proofs.Common.{◌+◌, Err, refl}
 use Rattle.folder_spec.specs.Seen.{under}
 use Rattle.content_writing.specs.Content.{still_coming}
+use Rattle.content_writing.proofs.Takings.{takes_none}
 use Rattle.item_making.specs.declared.fault.PutFault.TheVariants as puts
 use Rattle.vault_spec.specs.Making.{NewFile}
-use Rattle.vault_write.specs.Calls.{InPlace}
+use Rattle.vault_write.specs.Calls.{InPlace, most_by}
 use Rattle.vault_write.specs.Slots.{placing}
 use Rattle.vault_write.proofs.FileMade.{file_refused}
 use Rattle.vault_write.proofs.Filing.{reads_outside}
 use Rattle.vault_write.proofs.PutMade.{may_replace, put_anyway, replaced_at}
 use Rattle.vault_write.proofs.ReplacedMade.{replaced_file}
+use Rattle.vault_write.proofs.Takings.{replaced_takes}
 use Rattle.vault_write.proofs.file.replace.Goals as goal
 
 pub returns-in_err-buffers-clause-made : goal.returns-in_err-buffers-clause-made
@@ -28,3 +30,9 @@ returns-clause-made g c =
     c.args.vault.now c.args.work.now c.args.front.now c.args.name.now c.requires.allowed c.args.at.now (g.F.Folder.told c.args.folder.now) (g.F.Folder.told c.replace_entry.new.folder) c.requires.may (g.met.F.Folder.sound c.args.folder.now)
     (replaced_at c.args.vault.now (c.items_keep_vaults.ensures c.args.vault.now.vault) c.args.work.now c.args.front.now c.args.name.now c.args.at.now (g.F.Folder.told c.args.folder.now) (g.met.F.Folder.sound c.args.folder.now) c.requires.may c.requires.stands)
     (still_coming (g.C.Content.reads c.args.content.now) (g.F.Folder.told c.args.folder.now) (g.C.Content.coming c.args.content.now)) (still_coming (g.C.Content.reads c.args.content.now) (g.F.Folder.told c.args.folder.now) (g.C.Content.coming c.replace_entry.new.content)) (g.R.Randoms.left c.args.random.now) (g.R.Randoms.left c.replace_entry.new.random) c.replace_entry.result c.replace_entry.ensures.made
+
+pub returns-in_err-buffers-clause-taken : goal.returns-in_err-buffers-clause-taken
+returns-in_err-buffers-clause-taken g c = takes_none (most_by c.from_residual.result (g.C.Content.room c.args.content.now + 1)) (g.C.Content.left c.args.content.now)
+
+pub returns-clause-taken : goal.returns-clause-taken
+returns-clause-taken g c = replaced_takes c.replace_entry.result (g.C.Content.room c.args.content.now + 1) (g.C.Content.left c.args.content.now) (g.C.Content.left c.replace_entry.new.content) c.replace_entry.ensures.made c.replace_entry.ensures.taken

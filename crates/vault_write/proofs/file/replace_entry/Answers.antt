@@ -1,8 +1,9 @@
-use Rattle.std.proofs.Common.{◌∙◌, sym, codes}
+use Rattle.std.proofs.Common.{◌+◌, ◌∙◌, sym, codes}
 use Rattle.folder_spec.proofs.Paths.{child-not_base}
 use Rattle.work_folder.specs.Entries.{stage_path}
 use Rattle.item_making.specs.declared.fault.PutFault.TheVariants as puts
 use Rattle.content_writing.proofs.Blaming.{fits_at, folder_fits}
+use Rattle.content_writing.proofs.Takings.{takes_none}
 use Rattle.vault_write.specs.Filing.{file_of}
 use Rattle.vault_write.proofs.Filing.{reads_apart}
 use Rattle.vault_write.proofs.Replacing.{replace_failed, replace_free, replace_none, replace_placed, replace_stopped, replaces_allowed}
@@ -48,3 +49,6 @@ pub returns-in_err-publish_entry-clause-fits : goal.returns-in_err-publish_entry
 returns-in_err-publish_entry-clause-fits g c =
     let reads = g.C.Content.reads c.args.content.now in
     fits_at reads c.from_residual-in_err-publish_entry.result _ c.from_residual-in_err-publish_entry.ensures.1 (folder_fits reads c.in_err-publish_entry.field-0.0)
+
+pub returns-in_err-staged-clause-taken : goal.returns-in_err-staged-clause-taken
+returns-in_err-staged-clause-taken g c = takes_none (g.C.Content.room c.args.content.now + 1) (g.C.Content.left c.args.content.now)

@@ -1,8 +1,9 @@
-use Rattle.std.proofs.Common.{[], refl, arith}
+use Rattle.std.proofs.Common.{◌+◌, [], refl, arith}
 use Rattle.content_writing.specs.Content.{still_coming}
 use Rattle.item_making.specs.Faults.{of_folder}
 use Rattle.item_making.specs.declared.fault.PutFault.TheVariants as puts
 use Rattle.content_writing.proofs.Blaming.{blames_at, fits_at, folder_blames, folder_fits, folder_undrawn, folder_unread}
+use Rattle.content_writing.proofs.Takings.{takes_none}
 use Rattle.folder_model.proofs.Counting.{rose_since}
 use Rattle.vault_spec.specs.Cryptomator.{content_file}
 use Rattle.vault_write.specs.Filing.{StagesEntry}
@@ -24,6 +25,7 @@ returns-in_err-begin_folder g c =
       fits = fits_at (g.C.Content.reads c.args.content.now) result (of_folder fault) by_fault (folder_fits (g.C.Content.reads c.args.content.now) fault);
       reads = refl;
       room = omega arith;
+      taken = takes_none (g.C.Content.room c.args.content.now + 1) (g.C.Content.left c.args.content.now);
       lender = refl;
       failed = blames_at result (of_folder fault) puts.Failed _ _ by_fault (folder_blames _ _ _ fault (omega arith) c.in_err-begin_folder.ensures.counts);
       source = unblamed result (of_folder fault) puts.Source by_fault (folder_unread fault) (omega arith);
@@ -41,6 +43,7 @@ returns-in_err-file g c =
       fits = fits_at (g.C.Content.reads c.args.content.now) result puts.NoMemory by_fault tt;
       reads = refl;
       room = omega arith;
+      taken = takes_none (g.C.Content.room c.args.content.now + 1) (g.C.Content.left c.args.content.now);
       lender = refl;
       failed = unblamed result puts.NoMemory puts.Failed by_fault (λ same. cc same) c.in_ok-begin_folder.ensures.counts;
       source = unblamed result puts.NoMemory puts.Source by_fault (λ same. cc same) (omega arith);
@@ -76,6 +79,7 @@ returns-in_err-write_content g c =
       fits = fits_at (g.C.Content.reads c.args.content.now) result fault by_fault e.fits;
       reads = e.reads;
       room = e.room;
+      taken = e.taken;
       lender = e.lender;
       failed = blames_at result fault puts.Failed _ _ by_fault (omega (arith, begun, e.failed.0), λ same. rose_since _ _ _ begun (e.failed.1 same));
       source = blames_at result fault puts.Source _ _ by_fault e.source;
@@ -105,6 +109,7 @@ returns-in_err-stage_name g c =
       fits = fits_at (g.C.Content.reads c.args.content.now) result (of_folder fault) by_fault (folder_fits (g.C.Content.reads c.args.content.now) fault);
       reads = before.reads;
       room = before.room;
+      taken = before.taken;
       lender = before.lender;
       failed = blames_at result (of_folder fault) puts.Failed _ _ by_fault (folder_blames _ _ _ fault (omega (arith, c.in_ok-begin_folder.ensures.counts, before.failed.0)) c.in_err-stage_name.ensures.counts);
       source = unblamed result (of_folder fault) puts.Source by_fault (folder_unread fault) before.source.0;

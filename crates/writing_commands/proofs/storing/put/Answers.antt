@@ -33,7 +33,7 @@ returns-in-Ok g c =
     (g.F.Folder.told c.begin.new.folder) before after content.room.bytes content'.room.bytes content.room.passed content'.room.passed
     (g.met.F.Folder.sound c.args.folder.now) c.in-Ok.ensures.apart c.in-Ok.ensures.root c.in-Ok.ensures.work c.in-Ok.ensures.moments
     (g.met.F.Folder.sound c.begin.new.folder) c.in-Ok.ensures.leaves c.in-Ok.ensures.fresh
-    c.in-Ok.ensures.opened c.in-Ok.ensures.entered c.answer_to_making.ensures c.new-content.ensures.room c.new-content.ensures.passed c.put.ensures.made c.put.ensures.fault (Keeps-refl taken) in
+    c.in-Ok.ensures.opened c.in-Ok.ensures.entered c.answer_to_making.ensures c.new-content.ensures.room c.new-content.ensures.passed c.put.ensures.made c.put.ensures.fault c.put.ensures.taken (Keeps-refl taken) in
     -- the input that the content kept is the one that is given back
     let back : c.input-1.given.0 ≡ content'.source.now = c.input-1.given.1 (sym (c.put.ensures.lender ∙ c.new-content.ensures.lender)) in
     let now : World = record { told = told'; left = g.I.Source.left c.input-1.given.0; ended = g.I.Source.ended c.input-1.given.0; taken = taken; random = stream' } in

@@ -133,7 +133,7 @@ stands_copied rule from to there item v w same stands h = subst (Copies rule fro
   has = subst (λ path. tree_at to v path ≢ NoItem) stands.2 (h.has stands.0 stands.1);
   keeps = λ path is. is;
   gains = λ path is. inr is;
-  tidy = λ is. is;
+  tidy = λ place is. is;
   loads = λ pass vault is. is;
 })
 

@@ -37,6 +37,7 @@ use Rattle.migrate_core.proofs.Tested.{folder_tested, work_tested}
 use Rattle.migrate_core.proofs.Readied.{begun_readied, lacked_kept, readied_good, readied_shares, readied_stops, IsReadied}
 use Rattle.migrate_core.proofs.Bringing.{brings_done, brings_then, brings_written, texts_entered, unbrought_between}
 use Rattle.migrate_core.specs.Lasting.{BringsTexts, KeepsTexts}
+use Rattle.migrate_core.specs.Limits.{EndsBy}
 
 -- once the new journal is written, or that has failed
 module _ (g : Over) (c : After-write g) where

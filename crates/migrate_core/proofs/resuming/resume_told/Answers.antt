@@ -1,4 +1,5 @@
-use Rattle.std.proofs.Common.{◌≡◌, ◌∙◌, sym, subst, subst₂, Err, Ok, inl, IfErr}
+use Rattle.std.proofs.Common.{◌≡◌, ◌∙◌, sym, subst, subst₂, Err, Ok, Option, inl, IfErr}
+use Rattle.folder_spec.specs.Event.{Told}
 use Rattle.folder_spec.specs.Region.{apart_from_both}
 use Rattle.folder_spec.specs.View.{View}
 use Rattle.folder_spec.specs.Seen.{IsSeen, seen}
@@ -99,7 +100,7 @@ returns-clause-moved g c =
     let work = c.args.work.now in
     let told = g.F.Folder.told c.args.folder.now in
     let after = g.F.Folder.told c.resume_with.new.folder in
-    let shares = λ t. SharesSeen sides.names sides.source sides.target work (g.R.Randoms.left c.args.random.now) (g.R.Randoms.left c.resume_with.new.random) t after in
+    let shares = λ (t : Option Told). SharesSeen sides.names sides.source sides.target work (g.R.Randoms.left c.args.random.now) (g.R.Randoms.left c.resume_with.new.random) t after in
     let same = c.load_both.ensures.told ∙ c.test_source.ensures.told in
     tree_moved (shares told) names c.args.journal.source c.args.journal.target work c.args.source_pass.now c.args.target_pass.now sides.source sides.target told after c.resume_with.result loads.source loads.target
     (g.met.F.Folder.sound c.args.folder.now)

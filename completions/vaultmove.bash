@@ -8,7 +8,7 @@ _vaultmove() {
     local word=${COMP_WORDS[COMP_CWORD]} before=${COMP_WORDS[COMP_CWORD - 1]} command=${COMP_WORDS[1]} options=
     COMPREPLY=()
     if [ "$COMP_CWORD" = 1 ]; then
-        mapfile -t COMPREPLY < <(compgen -W 'cat decrypt-file demo fsck init ls migrate mkdir put repair resume retire' -- "$word")
+        mapfile -t COMPREPLY < <(compgen -W 'cat decrypt-file demo fsck init ls migrate mkdir passwd put repair resume retire' -- "$word")
         return
     fi
     case $command in
@@ -18,6 +18,7 @@ _vaultmove() {
         ls) options='--pass' ;;
         migrate) options='--from-pass --to-pass --nfc' ;;
         mkdir) options='--pass --work' ;;
+        passwd) options='--pass --new-pass --work' ;;
         put) options='--pass --work' ;;
         repair) options='--pass' ;;
         resume) options='--from-pass --to-pass' ;;
@@ -27,7 +28,7 @@ _vaultmove() {
     if [ "$word" = = ]; then word= before=${COMP_WORDS[COMP_CWORD - 1]}; fi
     if [ "$before" = = ]; then before=${COMP_WORDS[COMP_CWORD - 2]}; fi
     case $before in
-        --pass | --from-pass | --to-pass)
+        --pass | --new-pass | --from-pass | --to-pass)
             compopt -o filenames
             mapfile -t COMPREPLY < <(compgen -f -- "$word")
             return
@@ -48,7 +49,7 @@ _vaultmove() {
             ;;
     esac
     case $command in
-        cat | fsck | init | ls | migrate | mkdir | put | repair | resume | retire) _vaultmove_folders "$word" ;;
+        cat | fsck | init | ls | migrate | mkdir | passwd | put | repair | resume | retire) _vaultmove_folders "$word" ;;
     esac
 }
 complete -F _vaultmove vaultmove

@@ -12,6 +12,7 @@ use Rattle.command_words.specs.declared.commands.Command.{Command}
 use Rattle.command_words.specs.declared.commands.Command.TheVariants as command
 use Rattle.command_words.specs.declared.commands.Demonstration.{Demonstration}
 use Rattle.command_words.specs.declared.commands.Moving.{Moving}
+use Rattle.command_words.specs.declared.commands.NewPass.{NewPass}
 use Rattle.command_words.specs.declared.commands.NewVault.{NewVault}
 use Rattle.command_words.specs.declared.commands.Passes.{Passes}
 use Rattle.command_words.specs.declared.commands.Repairing.{Repairing}
@@ -49,6 +50,15 @@ new_vault_by _ _ _ _ = None
 abbrev pub new_vault_of : List Value → Option NewVault
 new_vault_of values =
     new_vault_by (format_value (first values)) (folder_value (second values)) (folder_value (third values)) (folder_value (fourth values))
+
+abbrev pub new_pass_by : Option Path → Option Path → Option Path → Option Path → Option NewPass
+new_pass_by (Some vault) (Some pass) (Some new_pass) (Some work) = Some (record { vault = vault; pass = pass; new_pass = new_pass; work = work })
+new_pass_by _ _ _ _ = None
+
+-- `VAULT`, `--pass`, `--new-pass`, `--work`
+abbrev pub new_pass_of : List Value → Option NewPass
+new_pass_of values =
+    new_pass_by (folder_value (first values)) (folder_value (second values)) (folder_value (third values)) (folder_value (fourth values))
 
 abbrev pub target_by : Option Path → Option plain.Path → Option Path → Option Target
 target_by (Some vault) (Some path) (Some pass) = Some (record { vault = vault; path = path; pass = pass })
@@ -131,6 +141,7 @@ command_by verb.Repair values = option_map command.Repair (repairing_of values)
 command_by verb.Migrate values = option_map command.Migrate (moving_of values)
 command_by verb.Resume values = option_map command.Resume (resuming_of values)
 command_by verb.Retire values = option_map command.Retire (resuming_of values)
+command_by verb.Passwd values = option_map command.Passwd (new_pass_of values)
 command_by verb.Demo values = option_map command.Demo (demonstration_of values)
 
 abbrev pub command_in : Request → Option Command
@@ -153,4 +164,5 @@ verb_of (command.Repair repairing) = verb.Repair
 verb_of (command.Migrate moving) = verb.Migrate
 verb_of (command.Resume resuming) = verb.Resume
 verb_of (command.Retire resuming) = verb.Retire
+verb_of (command.Passwd new) = verb.Passwd
 verb_of (command.Demo demonstration) = verb.Demo

@@ -10,7 +10,7 @@ use Rattle.command_words.specs.declared.rows.Place.TheVariants.{Value, JournalSo
 use Rattle.command_words.specs.declared.rows.Row as code
 use Rattle.command_words.specs.declared.rows.Valued as code_of_option
 use Rattle.command_words.specs.declared.rows.Verb.{Verb}
-use Rattle.command_words.specs.declared.rows.Verb.TheVariants.{DecryptFile, Init, Ls, Cat, Fsck, Mkdir, Put, Repair, Migrate, Resume, Retire, Demo}
+use Rattle.command_words.specs.declared.rows.Verb.TheVariants.{DecryptFile, Init, Ls, Cat, Fsck, Mkdir, Put, Repair, Migrate, Resume, Retire, Passwd, Demo}
 
 -- an option, and what its value writes
 pub record Valued : Type 0 where
@@ -91,6 +91,18 @@ row_of Put = record {
   one_file_system = Some (Value 0, Value 3);
   streams = false;
   statuses = 4 ∷ 5 ∷ 7 ∷ 8 ∷ 9 ∷ 10 ∷ 11 ∷ 12 ∷ 13 ∷ 15 ∷ 16 ∷ 17 ∷ 21 ∷ 22 ∷ 23 ∷ [];
+  contradicted = [];
+}
+row_of Passwd = record {
+  verb = Passwd;
+  name = codes "passwd";
+  words = FolderPath ∷ [];
+  options = path (codes "--pass") ∷ path (codes "--new-pass") ∷ path (codes "--work") ∷ [];
+  flags = [];
+  claims = Alone (Value 0) ∷ Alone (Value 3) ∷ [];
+  one_file_system = Some (Value 0, Value 3);
+  streams = false;
+  statuses = 4 ∷ 7 ∷ 8 ∷ 9 ∷ 10 ∷ 11 ∷ 15 ∷ 16 ∷ 17 ∷ 21 ∷ 23 ∷ [];
   contradicted = [];
 }
 row_of Ls = record {
@@ -191,7 +203,7 @@ row_of Demo = record {
 }
 
 abbrev pub verbs : List Verb
-verbs = DecryptFile ∷ Init ∷ Mkdir ∷ Put ∷ Ls ∷ Cat ∷ Fsck ∷ Repair ∷ Migrate ∷ Resume ∷ Retire ∷ Demo ∷ []
+verbs = DecryptFile ∷ Init ∷ Mkdir ∷ Put ∷ Passwd ∷ Ls ∷ Cat ∷ Fsck ∷ Repair ∷ Migrate ∷ Resume ∷ Retire ∷ Demo ∷ []
 
 abbrev pub row_in : List ℕ → List Row → Option Row
 row_in name [] = None

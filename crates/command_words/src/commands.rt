@@ -49,6 +49,15 @@ pub struct Change {
     pub work: FPath,
 }
 
+/// A vault whose passphrase is to be another one, the files that hold both, and a work folder.
+#[derive(Drop)]
+pub struct NewPass {
+    pub vault: FPath,
+    pub pass: FPath,
+    pub new_pass: FPath,
+    pub work: FPath,
+}
+
 /// The files that hold the passphrases of a migration's vaults.
 #[derive(Drop)]
 pub struct Passes {
@@ -107,6 +116,8 @@ pub enum Command {
     Resume(Resuming),
     /// `retire`: removes the source of a finished migration.
     Retire(Resuming),
+    /// `passwd`: puts another passphrase in the place of one.
+    Passwd(NewPass),
     /// `demo`: makes a tree of so many items from a number, and moves it there and back in memory.
     Demo(Demonstration),
 }

@@ -1,11 +1,12 @@
 //! Commands are made of what their words write, which is taken in the order of the row.
 ghost use Rattle.std.specs.Prelude.{◌≡◌, IfSome, drop};
 ghost use Rattle.std.specs.Vec.Iter.{into_iter_items};
-ghost use Rattle.command_words.specs.Commands.{change_of, checking_of, command_by, demonstration_of, first, moving_of, names_by, new_vault_of, passes_of, repairing_of, resuming_of, second, target_of};
+ghost use Rattle.command_words.specs.Commands.{change_of, checking_of, command_by, demonstration_of, first, moving_of, names_by, new_pass_of, new_vault_of, passes_of, repairing_of, resuming_of, second, target_of};
 ghost use Rattle.command_words.specs.Values.{folder_value};
 
 use crate::commands::{
-    Change, Checking, Command, Demonstration, Moving, NewVault, Passes, Repairing, Resuming, Target,
+    Change, Checking, Command, Demonstration, Moving, NewPass, NewVault, Passes, Repairing,
+    Resuming, Target,
 };
 use crate::rows::Verb;
 use crate::values::{
@@ -31,6 +32,7 @@ pub(crate) fn command(verb: Verb, values: Vec<Value>) -> Option<Command>
         Verb::Migrate => moving(&mut values).map(Command::Migrate),
         Verb::Resume => resuming(&mut values).map(Command::Resume),
         Verb::Retire => resuming(&mut values).map(Command::Retire),
+        Verb::Passwd => new_pass(&mut values).map(Command::Passwd),
         Verb::Demo => demonstration(&mut values).map(Command::Demo),
     }
 }
@@ -46,6 +48,21 @@ fn new_vault(values: &mut IntoIter<Value>) -> Option<NewVault>
         format,
         vault,
         pass,
+        work,
+    })
+}
+
+fn new_pass(values: &mut IntoIter<Value>) -> Option<NewPass>
+    ensures { result ≡ new_pass_of (into_iter_items values.old) }
+{
+    let vault = next_folder(values)?;
+    let pass = next_folder(values)?;
+    let new_pass = next_folder(values)?;
+    let work = next_folder(values)?;
+    Some(NewPass {
+        vault,
+        pass,
+        new_pass,
         work,
     })
 }

@@ -33,6 +33,7 @@ pub enum Verb {
     Migrate,
     Resume,
     Retire,
+    Passwd,
     Demo,
 }
 
@@ -159,6 +160,12 @@ const PASS: Valued = Valued {
     line: "file with the passphrase",
 };
 
+const NEW_PASS: Valued = Valued {
+    name: "--new-pass",
+    value: FILE,
+    line: "file with the new passphrase",
+};
+
 const FROM_PASS: Valued = Valued {
     name: "--from-pass",
     value: FILE,
@@ -182,7 +189,7 @@ const NFC: Flag = Flag {
     line: "bring names to normalization form C",
 };
 
-static ROWS: [Row; 12] = [
+static ROWS: [Row; 13] = [
     Row {
         verb: Verb::DecryptFile,
         name: "decrypt-file",
@@ -233,6 +240,19 @@ static ROWS: [Row; 12] = [
         one_file_system: Some((Place::Value(0), Place::Value(3))),
         streams: false,
         statuses: &[4, 5, 7, 8, 9, 10, 11, 12, 13, 15, 16, 17, 21, 22, 23],
+        contradicted: &[],
+    },
+    Row {
+        verb: Verb::Passwd,
+        name: "passwd",
+        line: "change the passphrase of a vault",
+        words: &[VAULT],
+        options: &[PASS, NEW_PASS, STAGED_IN],
+        flags: &[],
+        claims: &[Claim::Alone(Place::Value(0)), Claim::Alone(Place::Value(3))],
+        one_file_system: Some((Place::Value(0), Place::Value(3))),
+        streams: false,
+        statuses: &[4, 7, 8, 9, 10, 11, 15, 16, 17, 21, 23],
         contradicted: &[],
     },
     Row {

@@ -122,7 +122,7 @@ pass_refused v root pass answer =
     unless_then (OfPassFile pass (v pass) (refused answer) (λ phrase. ⊥)) (OfOpened v root pass (refused answer) (λ vault. ⊥)) answer (pass_then pass (v pass) (refused answer) (λ phrase. ⊥) (λ phrase. OfVault v root phrase (refused answer) (λ vault. ⊥)) (λ phrase none. absurd none))
 
 -- a refusal to load, as it is answered
-loading_refused : (root : Path) (v : View) (phrase : List ℕ) (fault : LoadFault) → RefusesLoading root (Loads (under root v) phrase) fault
+pub loading_refused : (root : Path) (v : View) (phrase : List ℕ) (fault : LoadFault) → RefusesLoading root (Loads (under root v) phrase) fault
     → Unless (of_load root fault) (OfVault v root phrase (refused (of_load root fault)) (λ vault. ⊥))
 loading_refused root v phrase (load.Missing at) refuses =
     inr (inr (Err (vault.Missing refuses.0), refuses.2, ap (λ p. refused (NotFound (named.Folder p))) refuses.1))

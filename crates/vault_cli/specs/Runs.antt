@@ -11,6 +11,7 @@ use Rattle.reading_commands.specs.Ls.{ListsItems}
 use Rattle.migration_commands.specs.Migrate.{MigratesTree, SidesHaveOwnFolders}
 use Rattle.writing_commands.specs.Mkdir.{MakesDirectoryIn}
 use Rattle.writing_commands.specs.Put.{StoresFile}
+use Rattle.writing_commands.specs.Passwd.{ChangesPassphrase}
 use Rattle.checking_commands.specs.Repair.{RepairsVault}
 use Rattle.migration_commands.specs.Resume.{ResumesTree}
 use Rattle.migration_commands.specs.Retire.{RetiresSource}
@@ -18,7 +19,7 @@ use Rattle.open_for_reading.specs.World.{World}
 use Rattle.command_answers.specs.declared.answer.Answer.{Answer}
 use Rattle.command_answers.specs.declared.answer.Answer.TheVariants.{BadCommandLine, OutOfMemory}
 use Rattle.command_words.specs.declared.commands.Command.{Command}
-use Rattle.command_words.specs.declared.commands.Command.TheVariants.{DecryptFile, Init, Ls, Cat, Fsck, Mkdir, Put, Repair, Migrate, Resume, Retire, Demo}
+use Rattle.command_words.specs.declared.commands.Command.TheVariants.{DecryptFile, Init, Ls, Cat, Fsck, Mkdir, Put, Repair, Migrate, Resume, Retire, Passwd, Demo}
 
 pub record DoesNothing (before after : World) : Type 0 where
   pub unchanged : after.told ≡ before.told
@@ -39,6 +40,7 @@ Executes (Some (Repair target)) answer before after = RepairsVault target answer
 Executes (Some (Migrate moving)) answer before after = MigratesTree moving answer before after
 Executes (Some (Resume resuming)) answer before after = ResumesTree resuming answer before after
 Executes (Some (Retire resuming)) answer before after = RetiresSource resuming answer before after
+Executes (Some (Passwd new)) answer before after = ChangesPassphrase new answer before after
 Executes (Some (Demo demonstration)) answer before after = Demonstrates demonstration answer before after
 
 -- memory was refused while the words were read, and nothing was done; or they made a command or none, and it was executed

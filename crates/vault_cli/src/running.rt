@@ -21,7 +21,7 @@ use migration_commands::{migrate, resume, retire};
 use port_model::{Randoms, Sink, Source};
 use reading_commands::{cat, decrypt_file, ls};
 use std::alloc::Global;
-use writing_commands::{init, mkdir, put};
+use writing_commands::{init, mkdir, passwd, put};
 
 /// Does what the words after the program's name ask for, and answers the status to end with. Every status but 0 and 1 writes its line
 /// to `err`: 1 a check has findings, 2 no command, 3 no memory, 4 the folder failed, 5 the input, 6 the output, 7 the random source,
@@ -120,6 +120,7 @@ fn execute_command<F: Folder, R: Randoms, I: Source, O: Sink>(
         Command::Migrate(moving) => migrate(alloc, moving, folder, random, input, out),
         Command::Resume(resuming) => resume(alloc, resuming, folder, random, input, out),
         Command::Retire(resuming) => retire(alloc, resuming, folder, random, input, out),
+        Command::Passwd(new) => passwd(alloc, new, folder, random, input, out),
         Command::Demo(demonstration) => demo(alloc, demonstration, folder, random, input, out),
     }
 }

@@ -2,5 +2,6 @@ mod Costs
 mod MadeItems
 mod MadeVaults
 mod Makings
+mod RekeyedVaults
 mod Rows
 mod StoredFiles

@@ -1,4 +1,4 @@
--- How `init`, `mkdir` and `put` carry out what they do, whose answers are of their rows.
+-- How `init`, `mkdir`, `put` and `passwd` carry out what they do, whose answers are of their rows.
 use Rattle.std.proofs.Common.{◌≡◌, ◌⊎◌, Bool, true, false, IsTrue, List, ℕ, Option, Some, Result, Ok, Err, inl, inr, refl, sym, subst}
 use Rattle.std.specs.Prelude.{⊤}
 use Rattle.item_making.specs.declared.fault.PutFault.{PutFault}
@@ -8,14 +8,18 @@ use Rattle.cryptomator_conf.specs.declared.conf.Combo.TheVariants.{SivGcm, SivCt
 use Rattle.folder_spec.specs.Path.{Part, Path}
 use Rattle.folder_spec.specs.View.{View}
 use Rattle.port_model.specs.Draws.{ByteStream}
+use Rattle.vault_read.specs.declared.fault.LoadFault.TheVariants as load
 use Rattle.vault_spec.specs.Vault.{Either}
+use Rattle.passwd_core.specs.declared.fault.PassFault.{PassFault}
+use Rattle.passwd_core.specs.declared.fault.PassFault.TheVariants as fault
 use Rattle.command_answers.specs.Answers.{status_of}
 use Rattle.command_answers.specs.Rows.{Ends, may_end}
 use Rattle.command_answers.specs.declared.answer.Answer.{Answer}
 use Rattle.command_answers.specs.declared.answer.Answer.TheVariants.{Done, OutOfMemory, FolderFault, InputFault, OutputFault, RandomFault, Overlap}
 use Rattle.command_words.specs.declared.commands.Change.{Change}
 use Rattle.command_words.specs.declared.commands.Command.{Command}
-use Rattle.command_words.specs.declared.commands.Command.TheVariants.{Init, Mkdir, Put}
+use Rattle.command_words.specs.declared.commands.Command.TheVariants.{Init, Mkdir, Put, Passwd}
+use Rattle.command_words.specs.declared.commands.NewPass.{NewPass}
 use Rattle.command_words.specs.declared.commands.NewVault.{NewVault}
 use Rattle.command_words.specs.declared.values.Format.{Format}
 use Rattle.command_words.specs.declared.values.Format.TheVariants.{Gocryptfs, Cryptomator, CryptomatorCtrMac}
@@ -28,6 +32,7 @@ use Rattle.writing_commands.specs.Faults.{answer_to_making}
 use Rattle.writing_commands.specs.Init.{DrawsCryptomator, DrawsVault, MakesVault}
 use Rattle.writing_commands.specs.Mkdir.{MakesDirectoryIn, is_of_directory}
 use Rattle.open_for_reading.specs.Places.{overlap, RefusesOverlap}
+use Rattle.writing_commands.specs.Passwd.{ChangesPassphrase, answer_to_change}
 use Rattle.writing_commands.specs.Put.{StoresFile, is_of_file}
 use Rattle.open_for_reading.specs.World.{World}
 
@@ -52,6 +57,27 @@ file_begun change answer own = cc
 file_row : (change : Change) (answer : Answer) → IsTrue (is_of_file answer) → IsTrue (may_end (Some (Put change)) (status_of answer))
 file_row change Done own = cc
 file_row change answer own = cc
+
+passwd_readied : (new : NewPass) (answer : Answer) → IsTrue (is_of_readying answer) → IsTrue (may_end (Some (Passwd new)) (status_of answer))
+passwd_readied new Done own = cc
+passwd_readied new answer own = cc
+
+-- a passphrase that is changed, or isn't
+change_row : (new : NewPass) (result : Result (Unit {0}) PassFault) → IsTrue (may_end (Some (Passwd new)) (status_of (answer_to_change new.vault result)))
+change_row new (Ok done) = refl
+change_row new (Err (fault.Load (load.Missing at))) = refl
+change_row new (Err (fault.Load (load.WrongKind at))) = refl
+change_row new (Err (fault.Load (load.TooLarge at))) = refl
+change_row new (Err (fault.Load (load.Go why))) = refl
+change_row new (Err (fault.Load (load.Cm at why))) = refl
+change_row new (Err (fault.Load load.WrongPass)) = refl
+change_row new (Err (fault.Load load.BadSignature)) = refl
+change_row new (Err (fault.Load load.Failed)) = refl
+change_row new (Err (fault.Load load.NoMemory)) = refl
+change_row new (Err fault.ZeroRandom) = refl
+change_row new (Err fault.Random) = refl
+change_row new (Err fault.Failed) = refl
+change_row new (Err fault.NoMemory) = refl
 
 -- a vault of Cryptomator that isn't founded
 cryptomator_row : (new : NewVault) (combo : Combo) (phrase : List ℕ) (made : View) (files : List (Part × List ℕ)) (stream stream' : Option ByteStream) (fault : PutFault)
@@ -103,6 +129,11 @@ put_row : (change : Change) (answer : Answer) (before after : World) → StoresF
 put_row change answer before after did =
     beside_row (Some (Put change)) is_of_beginning change.target.vault change.work _ _ answer before after did refl refl (file_begun change answer) (λ there. file_row change answer there.own)
 
+passwd_row : (new : NewPass) (answer : Answer) (before after : World) → ChangesPassphrase new answer before after → Ends (Some (Passwd new)) answer
+passwd_row new answer before after did =
+    beside_row (Some (Passwd new)) is_of_readying new.vault new.work _ _ answer before after did.changes refl refl (passwd_readied new answer)
+    (λ rekeys. elim rekeys.is [ inl memory ↦ subst (Ends (Some (Passwd new))) (sym memory) refl | inr is ↦ subst (Ends (Some (Passwd new))) (sym is) (change_row new rekeys.result) ])
+
 pub init_carried : (new : NewVault) (answer : Answer) (before after : World) (folder input output random : Type 0) → MakesVault new answer before after → (answer ≡ FolderFault → folder) → (answer ≡ RandomFault → random)
     → CarriesOut (Init new) (MakesVault new) (λ v. ⊤) answer before after folder input output random
 init_carried new answer before after folder input output random did failed undrawn =
@@ -123,3 +154,10 @@ put_carried change answer before after folder input output random did failed unr
     let ends : Ends (Some (Put change)) answer = put_row change answer before after did in
     carried (Put change) (StoresFile change) answer before after folder input output random refl did ends
     (blamed answer folder input output random failed unread (unnamed (Put change) answer OutputFault output ends refl) undrawn)
+
+pub passwd_carried : (new : NewPass) (answer : Answer) (before after : World) (folder input output random : Type 0) → ChangesPassphrase new answer before after → (answer ≡ FolderFault → folder) → (answer ≡ RandomFault → random)
+    → CarriesOut (Passwd new) (ChangesPassphrase new) (λ v. ⊤) answer before after folder input output random
+passwd_carried new answer before after folder input output random did failed undrawn =
+    let ends : Ends (Some (Passwd new)) answer = passwd_row new answer before after did in
+    carried (Passwd new) (ChangesPassphrase new) answer before after folder input output random refl did ends
+    (blamed answer folder input output random failed (unnamed (Passwd new) answer InputFault input ends refl) (unnamed (Passwd new) answer OutputFault output ends refl) undrawn)

@@ -2,4 +2,5 @@ pub mod Faults
 pub mod Init
 pub mod Items
 pub mod Mkdir
+pub mod Passwd
 pub mod Put

@@ -30,6 +30,10 @@ struct Folders {
 pub fn play_round(rt: &HostRuntime, seed: u64, calls: u32, tally: &mut Tally) -> io::Result<bool> {
     let mut chance = Chance::new(seed);
     let mut folders = begun(rt, seed)?;
+    if !folders.ask_links(rt)? {
+        println!(rt; "round {seed}, before the first call")?;
+        return Ok(false);
+    }
     for number in 0..calls {
         let step = Step::draw(rt.alloc(), &mut chance, &mut folders.model)?;
         if !folders.take(rt, &step, tally)? || !folders.compare(rt, &mut chance)? {
@@ -108,6 +112,28 @@ impl Folders {
             }
         }
         Ok(())
+    }
+
+    // Lists each of the directories while nothing but a link is in it, and reads the link: whether the answers are the model's.
+    fn ask_links(&mut self, rt: &HostRuntime) -> io::Result<bool> {
+        let alloc = rt.alloc();
+        for name in ROOTS {
+            let dir = FPath::base(alloc).child(name)?;
+            let link = dir.child(LINK)?;
+            if !same(rt, &mut self.claimed, &mut self.model, Question::List, &dir)? {
+                return Ok(false);
+            }
+            if !same(
+                rt,
+                &mut self.claimed,
+                &mut self.model,
+                Question::Read,
+                &link,
+            )? {
+                return Ok(false);
+            }
+        }
+        Ok(true)
     }
 
     // Makes a call of both folders: whether they answer the same.

@@ -15,15 +15,16 @@ use Rattle.host_places.specs.declared.claims.Hold.TheVariants as held
 use Rattle.host_places.specs.declared.claims.Wanted.{Wanted}
 use Rattle.move_journal.specs.declared.journal.Journal.{Journal}
 
--- beside other runs that read the same
-abbrev pub is_shared : Claim → Bool
-is_shared (Shared place) = true
-is_shared (Alone place) = false
+-- a value of the words, beside other runs that read the same
+abbrev pub is_read : Claim → Bool
+is_read (Shared (Value number)) = true
+is_read (Shared JournalSource) = false
+is_read (Shared JournalTarget) = false
+is_read (Alone place) = false
 
--- something is claimed, and all of it beside other runs
+-- all that is claimed is
 abbrev pub only_reads : List Claim → Bool
-only_reads [] = false
-only_reads claims = list_all is_shared claims
+only_reads claims = list_all is_read claims
 
 -- what the journal in the work folder names
 abbrev pub is_of_journal : Place → Bool

@@ -1,7 +1,7 @@
 //! What a run claims of the machine's folder before the command begins.
-ghost use Rattle.std.specs.Prelude.{◌≡◌, ◌++◌, ◌⊎◌, [], IfErr, IfOk, IsSome, IsTrue, None, OnOk, option_map};
+ghost use Rattle.std.specs.Prelude.{◌≡◌, ◌≢◌, ◌++◌, ◌⊎◌, [], IfErr, IfOk, IsSome, IsTrue, None, OnOk, option_map};
 ghost use Rattle.command_answers.specs.declared.answer.Answer.TheVariants.{OutOfMemory};
-ghost use Rattle.vaultmove.specs.Claims.{AsksOrIsBarred, HasAsked, claimed, claims_of, hold_of, is_of_journal, is_shared, names_roots, only_reads, path_of, place_of};
+ghost use Rattle.vaultmove.specs.Claims.{AsksOrIsBarred, HasAsked, claimed, claims_of, hold_of, is_of_journal, is_read, names_roots, only_reads, path_of, place_of};
 
 use command_answers::Answer;
 use command_words::Request;
@@ -15,10 +15,11 @@ use std::alloc::{AllocError, Global};
 /// Claims what the command may change, or what it checks. Where a claim isn't had, or what has to be renamed would cross from one file system
 /// to another, or gocryptfs has a vault mounted that is to be changed or moved, the folder changes nothing any more, and the command ends
 /// where it would change something. One that claims only to read reads nothing then.
+#[tactic(auto, using(crate::proofs::Claims::nothing_asked, crate::proofs::Claims::reads_asked))]
 pub fn claim(alloc: Global, request: &Request, folder: &mut HostFolder) -> Result<(), Answer>
     ensures nothing { request.now.row.claims ≡ [] → folder.new ≡ folder.old }
     ensures asks { OnOk result (AsksOrIsBarred request.now folder.new) }
-    ensures reads { OnOk result (IsTrue (only_reads request.now.row.claims) → IsTrue folder.new.barred.changes → IsTrue folder.new.barred.reads) }
+    ensures reads { OnOk result (request.now.row.claims ≢ [] → IsTrue (only_reads request.now.row.claims) → IsTrue folder.new.barred.changes → IsTrue folder.new.barred.reads) }
     ensures refused { IfErr result (λ answer. answer ≡ OutOfMemory) }
 {
     if request.row().claims.is_empty() {
@@ -32,20 +33,20 @@ pub fn claim(alloc: Global, request: &Request, folder: &mut HostFolder) -> Resul
     claim_to_change(alloc, request, folder)
 }
 
-// Whether a command claims something, and all of it beside runs that read it too.
+// Whether all that a command claims is a value of the words, beside runs that read it too.
 fn only_reads(request: &Request) -> bool
     ensures { result ≡ only_reads request.now.row.claims }
 {
     let claims = request.row().claims;
-    !claims.is_empty() && claims.iter().all(|claim| is_shared(*claim))
+    claims.iter().all(|claim| is_read(*claim))
 }
 
-fn is_shared(claim: Claim) -> bool
-    ensures { result ≡ is_shared claim }
+fn is_read(claim: Claim) -> bool
+    ensures { result ≡ is_read claim }
 {
     match claim {
-        Claim::Shared(_) => true,
-        Claim::Alone(_) => false,
+        Claim::Shared(Place::Value(_)) => true,
+        Claim::Shared(Place::JournalSource | Place::JournalTarget) | Claim::Alone(_) => false,
     }
 }
 

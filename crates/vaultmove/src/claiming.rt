@@ -15,7 +15,7 @@ use std::alloc::{AllocError, Global};
 /// Claims what the command may change, or what it checks. Where a claim isn't had, or what has to be renamed would cross from one file system
 /// to another, or gocryptfs has a vault mounted that is to be changed or moved, the folder changes nothing any more, and the command ends
 /// where it would change something. One that claims only to read reads nothing then.
-#[tactic(auto, using(crate::proofs::Claims::nothing_asked, crate::proofs::Claims::reads_asked))]
+#[tactic(auto, using(crate::proofs::Claims::reads_asked))]
 pub fn claim(alloc: Global, request: &Request, folder: &mut HostFolder) -> Result<(), Answer>
     ensures nothing { request.now.row.claims ≡ [] → folder.new ≡ folder.old }
     ensures asks { OnOk result (AsksOrIsBarred request.now folder.new) }

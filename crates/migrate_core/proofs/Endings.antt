@@ -1,6 +1,7 @@
 -- Ending a migration: that the target holds all that the source held, and what writing so in the journal does.
 use Rattle.std.proofs.Common.{◌≡◌, ◌≢◌, ℕ, List, ◌∷◌, ◌++◌, [], length, Option, Some, None, Result, Ok, Err, IfOk, IsErrAnd, OnOk, refl, sym, ap, ◌∙◌, subst}
 use Rattle.std.proofs.Math.Path.{fun_ext}
+use Rattle.chunk_files.specs.Reading.{Whole}
 use Rattle.folder_spec.specs.declared.FolderFault.{FolderFault}
 use Rattle.folder_spec.specs.Event.{Told, FromTo}
 use Rattle.folder_spec.specs.Path.{Path}
@@ -18,7 +19,7 @@ use Rattle.move_journal.specs.declared.journal.Journal.{Journal}
 use Rattle.move_journal.specs.declared.journal.Phase.TheVariants as phase
 use Rattle.plain_tree.specs.declared.name_map.NameMap.{NameMap}
 use Rattle.migration_spec.specs.Alone.{Progress, Unbegun, Begun, Finished, IsAlone, IsIn, StaysGuarded}
-use Rattle.tree_match.specs.Comparing.{Is}
+use Rattle.tree_match.specs.Comparing.{Is, bytes_found, content_of}
 use Rattle.migration_spec.specs.Guard.{Migration, HoldsAll, HoldsSource, IsThere, Tells, tree_at}
 use Rattle.vault_spec.specs.Mapped.{HasNoBroken, IsHeldIn, IsMapped, IsPartOfMapped, IsWhole, StaysApart}
 use Rattle.migration_sides.specs.Sides.{IsWalked, opened_in}
@@ -26,11 +27,13 @@ use Rattle.folder_spec.specs.Apart.{AreSeparate}
 use Rattle.tree_match.specs.Trees.{PlannedVault, HoldsAllBy, AsSame, IsMappedWalkOf, IsWalkOf, match_of, side_of, tree_of}
 use Rattle.tree_match.specs.declared.answer.Match.TheVariants.{Same}
 use Rattle.vault_spec.specs.Opened.{OpenedVault}
+use Rattle.vault_read.specs.Contents.{limited_reading}
 use Rattle.vault_read.specs.OwnFolders.{HasOwnFolders}
 use Rattle.vault_spec.specs.Findings.{IsClean}
 use Rattle.vault_spec.specs.Format.{Format}
 use Rattle.vault_spec.specs.Opens.{Opened, NoItem, Directory, Content, Broken, Tree, opened, tree}
 use Rattle.vault_spec.specs.Plan.{Planned}
+use Rattle.vault_spec.specs.Standing.{File, standing}
 use Rattle.vault_spec.specs.Vault.{IsVault, Vault, format_of}
 use Rattle.migrate_core.proofs.Keeping.{still_opens, still_seen}
 use Rattle.tree_match.proofs.Passing.{MappedStayApart}
@@ -39,6 +42,7 @@ use Rattle.migrate_core.proofs.MappedItems.{mapped_count}
 use Rattle.migrate_core.proofs.Movings.{mapped_walk, moves_to, source_beside, turned_over, under_stays}
 use Rattle.migrate_core.proofs.Planned.{SeenAlone, seen_of, source_held, source_mapped_walk, walk_of}
 use Rattle.migrate_core.proofs.SameItems.{same_length}
+use Rattle.migrate_core.proofs.Wholes.{source_whole, target_whole}
 use Rattle.migrate_core.specs.Copying.{StayGood}
 use Rattle.migrate_core.specs.Leading.{FinishesFrom, Goes, Leads, progress_of}
 use Rattle.vault_walk.specs.Surveyed.{IsPlanOf}
@@ -240,6 +244,12 @@ has_moved held_in same_part mapped from to work own items others journal (Some a
           (subst (λ x. IsMapped journal.names (tree (format_of from.vault) x) (tree_at to w)) (sym from_same)
           (one_tree held_in same_part mapped journal.names from to items others (Some a) (mapped_walk journal.names (Some a) from own items moving) walked_target same w refl
           (subst (HasOwnFolders from.vault) from_same alone) (subst (HasOwnFolders to.vault) to_same alone_target)));
+      source_contents = λ alone path rest stands.
+          subst (λ (x : View). HasOwnFolders from.vault x → standing (format_of from.vault) x path ≡ File rest → (content_of (from.root ++ rest) (limited_reading (format_of from.vault).content (bytes_found (x rest)))).ending ≡ Whole) (sym from_same)
+          (λ alone_there stood. source_whole journal.names from to items others w (same w refl) (record { own = own; walk = moving.walked.plan w refl alone_there; mapped = moving.same }) path rest stood) alone stands;
+      target_contents = λ alone path rest stands.
+          subst (λ (x : View). HasOwnFolders to.vault x → standing (format_of to.vault) x path ≡ File rest → (content_of (to.root ++ rest) (limited_reading (format_of to.vault).content (bytes_found (x rest)))).ending ≡ Whole) (sym to_same)
+          (λ alone_there stood. target_whole journal.names from to items others w (same w refl) (walked_target.plan w refl alone_there) path rest stood) alone stands;
       items = λ alone.
           (others, subst (λ x. IsPlanOf to.root (format_of to.vault) x others) (sym to_same) (walked_target.plan w refl (subst (HasOwnFolders to.vault) to_same alone)), counted);
       says = record {

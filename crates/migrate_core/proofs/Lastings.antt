@@ -1,5 +1,5 @@
 -- That what a migration has done lasts: how its parts tell of the journal, of what is left in the work folder, and of its end.
-use Rattle.std.proofs.Common.{◌≡◌, ℕ, ◌≤◌, ◌⊎◌, Bool, List, [], ◌∷◌, Option, Some, None, Result, Ok, Err, IfOk, OnOk, refl, sym, ap, ◌∙◌, inl, inr, subst, arith, IsTrue}
+use Rattle.std.proofs.Common.{◌≡◌, ℕ, ◌<◌, ◌≤◌, ◌⊎◌, Bool, List, [], ◌∷◌, Option, Some, None, Result, Ok, Err, IfOk, OnOk, refl, sym, ap, ◌∙◌, inl, inr, subst, arith, IsTrue}
 use Rattle.folder_spec.proofs.Moments.{went_by_call, went_more, went_nowhere, went_on, went_to}
 use Rattle.folder_spec.proofs.Regions.{seen_as_before}
 use Rattle.folder_spec.proofs.Seen.{file_seen, one_view}
@@ -7,8 +7,8 @@ use Rattle.folder_spec.proofs.Tables.{present_is_table}
 use Rattle.folder_spec.proofs.Tellings.{from_to_more, from_to_same}
 use Rattle.folder_spec.specs.declared.FolderFault.{FolderFault}
 use Rattle.folder_spec.specs.declared.Spot.TheVariants.{FileNode}
-use Rattle.folder_spec.specs.Event.{Changes, FromTo, Settle, Steps, Told, changed}
-use Rattle.folder_spec.specs.Moments.{Moments, Went}
+use Rattle.folder_spec.specs.Event.{Changes, Event, FromTo, Settle, Steps, Told, after, changed}
+use Rattle.folder_spec.specs.Moments.{EachEvent, EachState, Moments, Went}
 use Rattle.folder_spec.specs.Path.{Path}
 use Rattle.folder_spec.specs.Region.{IsAsBefore, SparesOld}
 use Rattle.folder_spec.specs.Replace.{IsNewFile}
@@ -35,7 +35,7 @@ use Rattle.migrate_core.proofs.Planned.{SeenAlone}
 use Rattle.migrate_core.proofs.Settled.{SettlesAlone, settled_at}
 use Rattle.migrate_core.proofs.Movings.{under_stays}
 use Rattle.migrate_core.proofs.WorkFolders.{elsewhere_at, ready_stays, writing_as, written_beside}
-use Rattle.migrate_core.specs.Lasting.{Clears, ClearsReady, Finishes, FinishesSettled, KeepsEachJournal, KeepsJournal, KeepsText, KeepsTexts, StaysBeside}
+use Rattle.migrate_core.specs.Lasting.{Clears, ClearsReady, ComesLast, Finishes, FinishesSettled, KeepsEachJournal, KeepsJournal, KeepsText, KeepsTexts, StaysBeside}
 use Rattle.migrate_core.specs.Leading.{FinishesFrom, Goes, IsSettled, Leads}
 use Rattle.migrate_core.specs.Moved.{done_of}
 use Rattle.migrate_core.specs.Moving.{MovesBeside}
@@ -54,7 +54,40 @@ pub leads_of : {T E : Type 0} (g : Migration) (p q : Progress) (t u : Option Tol
 leads_of g p q t u (Ok other) value is goes = goes.1
 leads_of g p q t u (Err fault) value is goes = absurd (cc is)
 
+-- ---- a run
+
+-- more is known of each state and of each event at a state of which so much is
+pub went_known : (P P' : State → Type 0) (Q Q' : State → Event → Type 0) (a b : Told)
+    → ((s : State) → P s → P' s) → ((s : State) (e : Event) → P s → Q s e → Q' s e) → Went P Q a b → Went P' Q' a b
+went_known P P' Q Q' a b more_state more_event h = record {
+  events = h.events;
+  log = h.log;
+  state = h.state;
+  states = states_more a.state h.events h.states;
+  each = events_more a.state h.events h.states h.each;
+  allowed = h.allowed;
+}
+  where
+    states_more : (s : State) (es : List Event) → EachState P s es → EachState P' s es
+    states_more s [] k = more_state s k
+    states_more s (e ∷ es) k = (more_state s k.0, states_more (after s e) es k.1)
+
+    events_more : (s : State) (es : List Event) → EachState P s es → EachEvent Q s es → EachEvent Q' s es
+    events_more s [] k each = tt
+    events_more s (e ∷ es) k each = (more_event s e k.0 each.0, events_more (after s e) es k.1 each.1)
+
 -- ---- the journal
+
+-- what a table of then has wasn't made since
+pub made_then : (s0 : State) (u : Table) (p : Path) (n : ℕ) → IsSound s0 → IsTableOf s0 u → u p ≡ FileNode n → s0.made ≤ n → ⊥
+made_then s0 u p n sound among is new = let old : n < s0.made = (sound.tables u among).is_made p n is in absurd (omega (arith, old, new))
+
+-- while there stands what stood at first, nothing says that all is done
+pub none_said : (work : Path) (journal : Journal) (s0 s : State) → IsSound s0 → KeepsText (λ v. ⊥) work journal s0 s → IsNewFile (journal_text (done_of journal)) s0 s (present s (journal_path work)) → ⊥
+none_said work journal s0 s sound kept new = elim (kept.tables (present s) (present_is_table s)) [
+  | inl there ↦ made_then s0 there.0 (journal_path work) new.number sound there.1 (sym there.2 ∙ new.is) new.new
+  | inr other ↦ absurd other.2
+]
 
 -- more may be so then
 text_more : (P Q : View → Type 0) (work : Path) (journal : Journal) (s0 s : State) → (P (seen s) → Q (seen s)) → KeepsText P work journal s0 s → KeepsText Q work journal s0 s
@@ -66,9 +99,9 @@ text_more P Q work journal s0 s more kept = record {
 
 pub texts_more : (P Q : View → Type 0) (work : Path) (journal : Journal) (t u : Option Told) → ((a : Told) → t ≡ Some a → (w : View) → P w → Q w) → KeepsTexts P work journal t u → KeepsTexts Q work journal t u
 texts_more P Q work journal t u more =
-    from_to_more (λ a b. Went (KeepsText P work journal a.state) (λ s e. Unit {0}) a b) (λ a b. Went (KeepsText Q work journal a.state) (λ s e. Unit {0}) a b) t u
-    (λ a b is went. went_more (KeepsText P work journal a.state) (KeepsText Q work journal a.state) (λ s e. Unit {0}) (λ s e. Unit {0}) a b
-    (λ s kept. text_more P Q work journal a.state s (more a is (seen s)) kept) (λ s e h. tt) went)
+    from_to_more (λ a b. Went (KeepsText P work journal a.state) (λ s e. ComesLast work journal a.state s e.call) a b) (λ a b. Went (KeepsText Q work journal a.state) (λ s e. ComesLast work journal a.state s e.call) a b) t u
+    (λ a b is went. went_more (KeepsText P work journal a.state) (KeepsText Q work journal a.state) (λ s e. ComesLast work journal a.state s e.call) (λ s e. ComesLast work journal a.state s e.call) a b
+    (λ s kept. text_more P Q work journal a.state s (more a is (seen s)) kept) (λ s e last. last) went)
 
 module _ (Is : View → Type 0) (work : Path) (journal : Journal) where
   abbrev Says : Type 0
@@ -88,16 +121,21 @@ module _ (Is : View → Type 0) (work : Path) (journal : Journal) where
     made = stayed.made;
   }
 
-  pub texts_by_region : (region : Path → Bool) (Q : Kind) (t u : Option Told) → IsTrue (region at) → Moments (IsAsBefore region) Q t u → KeepsTexts Is work journal t u
-  texts_by_region region Q t u inside =
-      from_to_more (λ a b. Went (IsAsBefore region a.state) (Q a.state) a b) (λ a b. Went (KeepsText Is work journal a.state) (λ s e. Unit {0}) a b) t u
-      (λ a b is went. went_more (IsAsBefore region a.state) (KeepsText Is work journal a.state) (Q a.state) (λ s e. Unit {0}) a b (λ s stayed. text_by_region region inside a.state s stayed) (λ s e h. tt) went)
+  none_by_region : (region : Path → Bool) → IsTrue (region at) → (s0 s : State) → IsSound s0 → IsAsBefore region s0 s → IsNewFile text s0 s (present s at) → ⊥
+  none_by_region region inside s0 s sound stayed new = made_then s0 (present s0) at new.number sound (present_is_table s0) (sym (stayed.seen at inside) ∙ new.is) new.new
+
+  pub texts_by_region : (region : Path → Bool) (Q : Kind) (t u : Option Told) → IsTrue (region at) → AreSound t → Moments (IsAsBefore region) Q t u → KeepsTexts Is work journal t u
+  texts_by_region region Q t u inside sound =
+      from_to_more (λ a b. Went (IsAsBefore region a.state) (Q a.state) a b) (λ a b. Went (KeepsText Is work journal a.state) (λ s e. ComesLast work journal a.state s e.call) a b) t u
+      (λ a b is went. went_known (IsAsBefore region a.state) (KeepsText Is work journal a.state) (Q a.state) (λ s e. ComesLast work journal a.state s e.call) a b (λ s stayed. text_by_region region inside a.state s stayed)
+      (λ s e stayed h new. absurd (none_by_region region inside a.state s (sound a is) stayed new)) went)
 
   -- or that all is done is written there, while it is so of whatever has stayed beside the work folder
   pub texts_written : (t u : Option Told) → AreSound t → ((w : View) → StaysBeside work t w → Is w) → Says → Writes work (done_of journal) t u → KeepsTexts Is work journal t u
   texts_written t u sound is_so says =
-      from_to_more (λ a b. Went (IsWriting work text a.state) (λ s e. SparesOld (elsewhere work) a.state s e.call) a b) (λ a b. Went (KeepsText Is work journal a.state) (λ s e. Unit {0}) a b) t u
-      (λ a b is went. went_more (IsWriting work text a.state) (KeepsText Is work journal a.state) (λ s e. SparesOld (elsewhere work) a.state s e.call) (λ s e. Unit {0}) a b (λ s writing. by_writing a s is writing) (λ s e h. tt) went)
+      from_to_more (λ a b. Went (IsWriting work text a.state) (λ s e. SparesOld (elsewhere work) a.state s e.call) a b) (λ a b. Went (KeepsText Is work journal a.state) (λ s e. ComesLast work journal a.state s e.call) a b) t u
+      (λ a b is went. went_more (IsWriting work text a.state) (KeepsText Is work journal a.state) (λ s e. SparesOld (elsewhere work) a.state s e.call) (λ s e. ComesLast work journal a.state s e.call) a b
+      (λ s writing. by_writing a s is writing) (λ s e spares new. spares.0) went)
     where
       beside : (a : Told) (s : State) → t ≡ Some a → IsWriting work text a.state s → StaysBeside work t (seen s)
       beside a s here writing v root is_v apart =
@@ -129,17 +167,30 @@ module _ (Is : View → Type 0) (work : Path) (journal : Journal) where
       before t u same (inl there) = inl (there.0, there.1, same ∙ there.2)
       before t u same (inr new) = absurd new.2
 
-  pub keeps_then : (t u w : Option Told) → KeepsTexts (λ v. ⊥) work journal t u → KeepsTexts Is work journal u w → KeepsTexts Is work journal t w
-  keeps_then None None None first later = tt
-  keeps_then (Some a) (Some b) (Some c) first later =
-      went_on (KeepsText Is work journal a.state) (λ s e. Unit {0}) a b c
-      (went_more (KeepsText (λ v. ⊥) work journal a.state) (KeepsText Is work journal a.state) (λ s e. Unit {0}) (λ s e. Unit {0}) a b (λ s kept. text_more (λ v. ⊥) Is work journal a.state s (λ none. absurd none) kept) (λ s e h. tt) first)
-      (went_more (KeepsText Is work journal b.state) (KeepsText Is work journal a.state) (λ s e. Unit {0}) (λ s e. Unit {0}) b c
-      (λ s kept. text_then a.state b.state s (went_to (KeepsText (λ v. ⊥) work journal a.state) (λ s e. Unit {0}) a b first) kept) (λ s e h. tt) later)
-  keeps_then None (Some b) w first later = absurd first
-  keeps_then (Some a) None w first later = absurd first
-  keeps_then None None (Some c) first later = absurd later
-  keeps_then (Some a) (Some b) None first later = absurd later
+  -- of which nothing is there that was made since the first began, but what was made since the later one
+  said_later : (s0 s1 s : State) → IsSound s0 → KeepsText (λ v. ⊥) work journal s0 s1 → KeepsText Is work journal s1 s → IsNewFile text s0 s (present s at) → IsNewFile text s1 s (present s at)
+  said_later s0 s1 s sound first later new = elim (later.tables (present s) (present_is_table s)) [
+    | inl there ↦ absurd (before there.0 (sym there.2 ∙ new.is) (first.tables there.0 there.1))
+    | inr other ↦ other.1
+  ]
+    where
+      before : (u : Table) → u at ≡ FileNode new.number → ((x : Table) × IsTableOf s0 x × (u at ≡ x at)) ⊎ (Says × IsNewFile text s0 s1 (u at) × ⊥) → ⊥
+      before u is (inl there) = made_then s0 there.0 at new.number sound there.1 (sym there.2 ∙ is) new.new
+      before u is (inr none) = none.2
+
+  pub keeps_then : (t u w : Option Told) → AreSound t → KeepsTexts (λ v. ⊥) work journal t u → KeepsTexts Is work journal u w → KeepsTexts Is work journal t w
+  keeps_then None None None sound first later = tt
+  keeps_then (Some a) (Some b) (Some c) sound first later =
+      let before = went_to (KeepsText (λ v. ⊥) work journal a.state) (λ s e. ComesLast work journal a.state s e.call) a b first in
+      went_on (KeepsText Is work journal a.state) (λ s e. ComesLast work journal a.state s e.call) a b c
+      (went_more (KeepsText (λ v. ⊥) work journal a.state) (KeepsText Is work journal a.state) (λ s e. ComesLast work journal a.state s e.call) (λ s e. ComesLast work journal a.state s e.call) a b
+      (λ s kept. text_more (λ v. ⊥) Is work journal a.state s (λ none. absurd none) kept) (λ s e last. last) first)
+      (went_known (KeepsText Is work journal b.state) (KeepsText Is work journal a.state) (λ s e. ComesLast work journal b.state s e.call) (λ s e. ComesLast work journal a.state s e.call) b c
+      (λ s kept. text_then a.state b.state s before kept) (λ s e kept last new. last (said_later a.state b.state s (sound a refl) before kept new)) later)
+  keeps_then None (Some b) w sound first later = absurd first
+  keeps_then (Some a) None w sound first later = absurd first
+  keeps_then None None (Some c) sound first later = absurd later
+  keeps_then (Some a) (Some b) None sound first later = absurd later
 
   text_same : (s : State) → KeepsText Is work journal s s
   text_same s = record { tables = λ t among. inl (t, among, refl); nodes = λ n old. refl; made = omega arith }
@@ -147,7 +198,8 @@ module _ (Is : View → Type 0) (work : Path) (journal : Journal) where
   -- nothing has changed
   pub texts_same : (t u : Option Told) → u ≡ t → KeepsTexts Is work journal t u
   texts_same t u same =
-      from_to_same (λ a b. Went (KeepsText Is work journal a.state) (λ s e. Unit {0}) a b) t u same (λ a. went_nowhere (KeepsText Is work journal a.state) (λ s e. Unit {0}) a (text_same a.state))
+      from_to_same (λ a b. Went (KeepsText Is work journal a.state) (λ s e. ComesLast work journal a.state s e.call) a b) t u same
+      (λ a. went_nowhere (KeepsText Is work journal a.state) (λ s e. ComesLast work journal a.state s e.call) a (text_same a.state))
 
   -- a settle
   text_settled : (s : State) → KeepsText Is work journal s (changed s Settle)
@@ -162,8 +214,9 @@ module _ (Is : View → Type 0) (work : Path) (journal : Journal) where
 
   pub texts_settled : (t u : Option Told) (result : Result (Unit {0}) FolderFault) → Changes Settle t u result → KeepsTexts Is work journal t u
   texts_settled t u result =
-      from_to_more (λ a b. Steps Settle a b result) (λ a b. Went (KeepsText Is work journal a.state) (λ s e. Unit {0}) a b) t u
-      (λ a b is steps. went_by_call (KeepsText Is work journal a.state) (λ s e. Unit {0}) Settle a b result (text_same a.state) (λ allowed. text_settled a.state) (λ added allowed. text_same a.state) (λ outcome. tt) steps)
+      from_to_more (λ a b. Steps Settle a b result) (λ a b. Went (KeepsText Is work journal a.state) (λ s e. ComesLast work journal a.state s e.call) a b) t u
+      (λ a b is steps. went_by_call (KeepsText Is work journal a.state) (λ s e. ComesLast work journal a.state s e.call) Settle a b result (text_same a.state) (λ allowed. text_settled a.state) (λ added allowed. text_same a.state)
+      (λ outcome new. tt) steps)
 
   -- behind a settle a read finds it
   stands_by : (s0 s : State) → IsSound s0 → s0.later ≡ [] → StandsIn work journal (seen s0) → KeepsText Is work journal s0 s → StandsIn work journal (seen s) ⊎ StandsIn work (done_of journal) (seen s)
@@ -184,18 +237,18 @@ module _ (Is : View → Type 0) (work : Path) (journal : Journal) where
           ∙ ap (λ (node : Node). FileOf node.now) (kept.nodes there.0 ((sound.tables (present s0) (present_is_table s0)).is_made at there.0 there.1))
           ∙ sym (ap (found (λ n. (s0.nodes n).now)) there.1)
 
-  pub journal_kept : (t u w : Option Told) (done : Unit {0}) (v : View) → AreSound u → IsSeen t v → StandsIn work journal v → Changes Settle t u (Ok done) → KeepsTexts (λ x. ⊥) work journal t u
+  pub journal_kept : (t u w : Option Told) (done : Unit {0}) (v : View) → AreSound t → AreSound u → IsSeen t v → StandsIn work journal v → Changes Settle t u (Ok done) → KeepsTexts (λ x. ⊥) work journal t u
       → KeepsTexts Is work journal u w → KeepsJournal Is work journal t w
-  journal_kept (Some a) (Some b) (Some c) done v sound is stands changes settled kept = record {
-    moments = keeps_then (Some a) (Some b) (Some c) settled kept;
+  journal_kept (Some a) (Some b) (Some c) done v sound sound_after is stands changes settled kept = record {
+    moments = keeps_then (Some a) (Some b) (Some c) sound settled kept;
     stands = λ x is_x. subst (λ y. StandsIn work journal y ⊎ StandsIn work (done_of journal) y) (sym is_x)
-        (stands_by b.state c.state (sound b refl) (settle_lasts (Some a) (Some b) done changes)
+        (stands_by b.state c.state (sound_after b refl) (settle_lasts (Some a) (Some b) done changes)
         (subst (StandsIn work journal) (settle_seen (Some a) (Some b) done changes v is) stands)
-        (went_to (KeepsText Is work journal b.state) (λ s e. Unit {0}) b c kept));
+        (went_to (KeepsText Is work journal b.state) (λ s e. ComesLast work journal b.state s e.call) b c kept));
   }
-  journal_kept None u w done v sound is stands changes settled kept = absurd is
-  journal_kept (Some a) None w done v sound is stands changes settled kept = absurd changes
-  journal_kept (Some a) (Some b) None done v sound is stands changes settled kept = absurd kept
+  journal_kept None u w done v sound sound_after is stands changes settled kept = absurd is
+  journal_kept (Some a) None w done v sound sound_after is stands changes settled kept = absurd changes
+  journal_kept (Some a) (Some b) None done v sound sound_after is stands changes settled kept = absurd kept
 
   pub journal_fell : (t u : Option Told) (result : Result (Unit {0}) FolderFault) (v : View) → IsSeen t v → StandsIn work journal v → Changes Settle t u result → KeepsJournal Is work journal t u
   journal_fell t u result v is stands changes = record {

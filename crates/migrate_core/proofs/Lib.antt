@@ -28,6 +28,7 @@ mod SourcePlaces
 mod Started
 mod Stopping
 mod Tested
+mod Wholes
 mod Within
 mod WorkFolders
 mod Writings

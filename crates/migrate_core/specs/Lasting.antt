@@ -1,18 +1,20 @@
 -- How it lasts that a migration is done; and what stands in the work folder then.
 use Rattle.std.specs.Prelude.{◌≡◌, ◌⊎◌, ℕ, ◌<◌, ◌≤◌, List, Option}
 use Rattle.folder_spec.specs.Apart.{AreApart}
-use Rattle.folder_spec.specs.Event.{Told, FromTo}
+use Rattle.folder_spec.specs.Event.{Call, Told, FromTo}
 use Rattle.folder_spec.specs.Moments.{Moments}
 use Rattle.folder_spec.specs.Path.{Path}
+use Rattle.folder_spec.specs.Region.{Spares}
 use Rattle.folder_spec.specs.Replace.{IsNewFile}
 use Rattle.folder_spec.specs.Seen.{IfSeen, IsSeen, seen, under}
-use Rattle.folder_spec.specs.State.{State, Table, IsTableOf}
+use Rattle.folder_spec.specs.State.{State, Table, IsTableOf, present}
 use Rattle.folder_spec.specs.View.{NoEntry, View}
 use Rattle.migration_spec.specs.Alone.{Finished, IsAlone}
 use Rattle.migration_spec.specs.Guard.{AreOpenedBy, Guarded, Migration}
 use Rattle.migration_sides.specs.Sides.{opened_in}
 use Rattle.move_journal.specs.Journal.{IsJournal, journal_text}
 use Rattle.move_journal.specs.Reading.{StandsIn}
+use Rattle.move_journal.specs.Writing.{elsewhere}
 use Rattle.move_journal.specs.declared.journal.Journal.{Journal}
 use Rattle.move_journal.specs.declared.journal.Phase.TheVariants.{Building}
 use Rattle.plain_tree.specs.declared.name_map.NameMap.{NameMap}
@@ -52,9 +54,14 @@ pub record KeepsText (Is : View → Type 0) (work : Path) (journal : Journal) (s
   pub nodes : (n : ℕ) → n < s0.made → s.nodes n ≡ s0.nodes n
   pub made : s0.made ≤ s.made
 
--- at each moment
+-- What says that all is done comes last: once a file made since s0 that says so stands at `journal`, a call touches nothing but that place
+-- and `journal.new`.
+abbrev pub ComesLast : Path → Journal → State → State → Call → Type 0
+ComesLast work journal s0 s call = IsNewFile (journal_text (done_of journal)) s0 s (present s (journal_path work)) → Spares (elsewhere work) call
+
+-- at each moment, and each call
 abbrev pub KeepsTexts : (View → Type 0) → Path → Journal → Option Told → Option Told → Type 0
-KeepsTexts Is work journal = Moments (KeepsText Is work journal) (λ s0 s e. Unit {0})
+KeepsTexts Is work journal = Moments (KeepsText Is work journal) (λ s0 s e. ComesLast work journal s0 s e.call)
 
 -- A journal that stood stands at each moment, or what says that all is done stands in its place, and only while this is so; and so a read
 -- finds it in the end.
@@ -83,9 +90,9 @@ pub record BringsText (Is : View → Type 0) (work : Path) (journal : Journal) (
   pub nodes : (n : ℕ) → n < s0.made → s.nodes n ≡ s0.nodes n
   pub made : s0.made ≤ s.made
 
--- at each moment
+-- at each moment, and what says that all is done comes last
 abbrev pub BringsTexts : (View → Type 0) → Path → Journal → Option Told → Option Told → Type 0
-BringsTexts Is work journal = Moments (BringsText Is work journal) (λ s0 s e. Unit {0})
+BringsTexts Is work journal = Moments (BringsText Is work journal) (λ s0 s e. ComesLast work journal s0 s e.call)
 
 -- The journal of a migration by this rule between these roots is brought, and what says that all is done comes only while the target has the
 -- mapped tree of the source, of the vaults that these passphrases opened in the first view.

@@ -1,6 +1,7 @@
 -- What is so once a migration is done.
-use Rattle.std.specs.Prelude.{◌≡◌, ◌≢◌, ℕ, Bool, not, is_some, List, length, codes, Option, Result, IfOk}
+use Rattle.std.specs.Prelude.{◌≡◌, ◌≢◌, ◌++◌, ℕ, Bool, not, is_some, List, length, codes, Option, Result, IfOk}
 use Rattle.std.specs.List.{filter}
+use Rattle.chunk_files.specs.Reading.{Whole}
 use Rattle.folder_spec.specs.Path.{Part, Path, child}
 use Rattle.folder_spec.specs.Event.{Told}
 use Rattle.folder_spec.specs.Seen.{IfSeen, under}
@@ -9,12 +10,15 @@ use Rattle.move_journal.specs.Journal.{IsJournal}
 use Rattle.move_journal.specs.Reading.{StandsIn}
 use Rattle.move_journal.specs.declared.journal.Journal.{Journal}
 use Rattle.move_journal.specs.declared.journal.Phase.TheVariants as phase
+use Rattle.plain_tree.specs.Names as plain
 use Rattle.plain_tree.specs.declared.name_map.NameMap.{NameMap}
+use Rattle.tree_match.specs.Comparing.{content_at}
 use Rattle.tree_match.specs.Matching.{item_with}
 use Rattle.vault_read.specs.OwnFolders.{HasOwnFolders}
 use Rattle.vault_spec.specs.Opened.{OpenedVault}
 use Rattle.vault_spec.specs.Findings.{IsClean}
 use Rattle.vault_spec.specs.Plan.{Planned}
+use Rattle.vault_spec.specs.Standing.{File, standing}
 use Rattle.vault_spec.specs.Vault.{Vault, IsVault, format_of}
 use Rattle.vault_walk.specs.Surveyed.{IsPlanOf}
 use Rattle.work_folder.specs.Entering.{IsReady}
@@ -53,11 +57,20 @@ HasItems a count v = HasOwnFolders a.vault (under a.root v) → (items : List Pl
 abbrev pub TellsItems : OpenedVault → Journal → View → Type 0
 TellsItems a journal v = HasOwnFolders a.vault (under a.root v) → (items : List Planned) × IsPlanOf a.root (format_of a.vault) (under a.root v) items × AreTold journal items
 
--- both vaults are clean, the target has the mapped tree of the source, of so many items, and the journal says so and tells those of the source
+-- where no two of its directories share a folder, each file of the vault is read to its end: its content is whole, and passes no limit
+abbrev pub HasWholeContents : OpenedVault → View → Type 0
+HasWholeContents a v =
+    HasOwnFolders a.vault (under a.root v) → (path : plain.Path) (rest : Path) → standing (format_of a.vault) (under a.root v) path ≡ File rest
+    → (content_at (format_of a.vault).content v (a.root ++ rest)).ending ≡ Whole
+
+-- Both vaults are clean, the target has the mapped tree of the source, of so many items, and the journal says so and tells those of the
+-- source. The contents of both are whole, and pass no limit.
 pub record HasMoved (names : NameMap) (from to : OpenedVault) (work : Path) (count : ℕ) (v : View) : Type 0 where
   pub source : IsClean (format_of from.vault) (under from.root v)
   pub target : IsClean (format_of to.vault) (under to.root v)
   pub trees : HaveMappedTree names from to v
+  pub source_contents : HasWholeContents from v
+  pub target_contents : HasWholeContents to v
   pub items : HasItems to count v
   pub says : SaysDone names from.root to.root work count v
   pub tells : TellsItems from says.journal v

@@ -270,6 +270,6 @@ returns-clause-journal g c v is =
     let told = g.F.Folder.told c.args.folder.now in
     let here = g.F.Folder.told c.settle.new.self in
     let after = g.F.Folder.told c.begin_settled.new.folder in
-    brought_since c.args.names c.args.source.now c.args.target.now c.args.work.now c.args.source_pass.now c.args.target_pass.now told here after v
+    brought_since c.args.names c.args.source.now c.args.target.now c.args.work.now c.args.source_pass.now c.args.target_pass.now told here after v (g.met.F.Folder.sound c.args.folder.now)
     (λ j. texts_settled (λ x. ⊥) c.args.work.now j told here c.settle.result c.settle.ensures.changes)
     (c.begin_settled.ensures.journal v (settle_seen told here c.in_ok-settle.field-0 c.in_ok-settle.ensures.changes v is))

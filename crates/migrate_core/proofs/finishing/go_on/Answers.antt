@@ -226,7 +226,7 @@ pub returns-in_err-placed-clause-journal : goal.returns-in_err-placed-clause-jou
 returns-in_err-placed-clause-journal g c =
     let work = c.args.work.now in
     let root = c.args.sides.now.target.root in
-    texts_by_region (HaveMappedTree c.args.sides.now.names c.args.sides.now.source c.args.sides.now.target) work c.args.journal (is_apart work root) (λ s0 s e. OnlyBrings work root s e.call) (g.F.Folder.told c.args.folder.now) (g.F.Folder.told c.place_missing.new.folder) (placing_has work root c.requires.apart.target).journal c.place_missing.ensures.moves
+    texts_by_region (HaveMappedTree c.args.sides.now.names c.args.sides.now.source c.args.sides.now.target) work c.args.journal (is_apart work root) (λ s0 s e. OnlyBrings work root s e.call) (g.F.Folder.told c.args.folder.now) (g.F.Folder.told c.place_missing.new.folder) (placing_has work root c.requires.apart.target).journal (g.met.F.Folder.sound c.args.folder.now) c.place_missing.ensures.moves
 
 pub returns-clause-journal : goal.returns-clause-journal
 returns-clause-journal g c =
@@ -235,8 +235,8 @@ returns-clause-journal g c =
     let told = g.F.Folder.told c.args.folder.now in
     let here = g.F.Folder.told c.place_missing.new.folder in
     let after = g.F.Folder.told c.finish.new.folder in
-    keeps_then (HaveMappedTree c.args.sides.now.names c.args.sides.now.source c.args.sides.now.target) work c.args.journal told here after
-    (texts_by_region (λ v. ⊥) work c.args.journal (is_apart work root) (λ s0 s e. OnlyBrings work root s e.call) told here (placing_has work root c.requires.apart.target).journal c.place_missing.ensures.moves)
+    keeps_then (HaveMappedTree c.args.sides.now.names c.args.sides.now.source c.args.sides.now.target) work c.args.journal told here after (g.met.F.Folder.sound c.args.folder.now)
+    (texts_by_region (λ v. ⊥) work c.args.journal (is_apart work root) (λ s0 s e. OnlyBrings work root s e.call) told here (placing_has work root c.requires.apart.target).journal (g.met.F.Folder.sound c.args.folder.now) c.place_missing.ensures.moves)
     (subst (λ w. KeepsTexts (HaveMappedTree c.args.sides.now.names c.args.sides.now.source c.args.sides.now.target) w c.args.journal here after) c.at.ensures c.finish.ensures.journal)
 
 pub returns-clause-clears : goal.returns-clause-clears

@@ -57,7 +57,7 @@ module _ (g : Over) (c : After-again g) where
       let root = c.args.sides.now.target.root in
       let t0 = g.F.Folder.told c.args.folder.now in
       let t1 = g.F.Folder.told c.again.new.folder in
-      texts_by_region Is work c.args.journal (apart_from (stage_path work)) (λ s0 s e. OnlyBrings work root s e.call) t0 t1 (staging_has work).journal
+      texts_by_region Is work c.args.journal (apart_from (stage_path work)) (λ s0 s e. OnlyBrings work root s e.call) t0 t1 (staging_has work).journal (g.met.F.Folder.sound c.args.folder.now)
       (changing_moves work (stage_path work) (IsStage work) (IsBelowStage work) root t0 t1 (stage_apart work root c.requires.apart.target) c.again.ensures.restages.moments)
 
   no_file : WritesBeside c.args.sides.now.target.root (λ file. ⊥) (g.F.Folder.told c.args.folder.now) (g.F.Folder.told c.again.new.folder)
@@ -248,7 +248,7 @@ returns-clause-journal g c =
     let ready = g.F.Folder.told c.again.new.folder in
     let after = g.F.Folder.told c.go_on.new.folder in
     let Trees = HaveMappedTree c.args.sides.now.names c.args.sides.now.source c.args.sides.now.target in
-    keeps_then Trees work c.args.journal told ready after (again_keeps g (goal.at.returns-clause-journal g c).After-again (λ v. ⊥)) (subst (λ w. KeepsTexts Trees w c.args.journal ready after) c.in_ok-again.ensures.path c.go_on.ensures.journal)
+    keeps_then Trees work c.args.journal told ready after (g.met.F.Folder.sound c.args.folder.now) (again_keeps g (goal.at.returns-clause-journal g c).After-again (λ v. ⊥)) (subst (λ w. KeepsTexts Trees w c.args.journal ready after) c.in_ok-again.ensures.path c.go_on.ensures.journal)
 
 pub returns-clause-clears : goal.returns-clause-clears
 returns-clause-clears g c =

@@ -160,7 +160,7 @@ returns-clause-journal g c v journal seen is stands =
     let t0 = g.F.Folder.told c.args.folder.now in
     let t1 = g.F.Folder.told c.settle.new.self in
     let t2 = g.F.Folder.told c.resume_settled.new.folder in
-    journal_kept (HaveToldTrees c.args.source_pass.now c.args.target_pass.now v journal) c.args.work.now journal t0 t1 t2 c.in_ok-settle.field-0 v (g.met.F.Folder.sound c.settle.new.self) seen stands c.in_ok-settle.ensures.changes
+    journal_kept (HaveToldTrees c.args.source_pass.now c.args.target_pass.now v journal) c.args.work.now journal t0 t1 t2 c.in_ok-settle.field-0 v (g.met.F.Folder.sound c.args.folder.now) (g.met.F.Folder.sound c.settle.new.self) seen stands c.in_ok-settle.ensures.changes
     (texts_settled (λ x. ⊥) c.args.work.now journal t0 t1 c.settle.result c.settle.ensures.changes)
     (c.resume_settled.ensures.journal v journal (settle_seen t0 t1 c.in_ok-settle.field-0 c.in_ok-settle.ensures.changes v seen) is stands)
 

@@ -17,7 +17,7 @@ use Rattle.migration_spec.proofs.Tellings.{AreSound}
 use Rattle.move_journal.specs.Journal.{journal_text, phase_line, title}
 use Rattle.move_journal.specs.declared.journal.Form.TheVariants.{Second}
 use Rattle.move_journal.specs.declared.journal.Phase.{Phase}
-use Rattle.move_journal.specs.Writing.{IsWriting, Writes, elsewhere}
+use Rattle.move_journal.specs.Writing.{IsWriting, PutsOnce, WritesOnce}
 use Rattle.move_journal.specs.declared.journal.Journal.{Journal}
 use Rattle.move_journal.specs.declared.journal.Phase.TheVariants.{Building, Done}
 use Rattle.work_folder.specs.Changing.{ChangesAt, ChangesOnly, IsChangingAt}
@@ -181,11 +181,11 @@ module _ (Is : View → Type 0) (work : Path) (journal : Journal) where
     made = writing.journal.made;
   }
 
-  pub brings_written : (t u : Option Told) → Writes work journal t u → BringsTexts Is work journal t u
+  pub brings_written : (t u : Option Told) → WritesOnce work journal t u → BringsTexts Is work journal t u
   brings_written t u =
-      from_to_more (λ a b. Went (IsWriting work (journal_text journal) a.state) (λ s e. SparesOld (elsewhere work) a.state s e.call) a b) (λ a b. Went (BringsText Is work journal a.state) (λ s e. ComesLast work journal a.state s e.call) a b) t u
-      (λ a b is went. went_more (IsWriting work (journal_text journal) a.state) (BringsText Is work journal a.state) (λ s e. SparesOld (elsewhere work) a.state s e.call) (λ s e. ComesLast work journal a.state s e.call) a b
-      (λ s writing. written_brings a.state s writing) (λ s e spares new. spares.0) went)
+      from_to_more (λ a b. Went (IsWriting work (journal_text journal) a.state) (λ s e. PutsOnce work a.state s e.call) a b) (λ a b. Went (BringsText Is work journal a.state) (λ s e. ComesLast work journal a.state s e.call) a b) t u
+      (λ a b is went. went_more (IsWriting work (journal_text journal) a.state) (BringsText Is work journal a.state) (λ s e. PutsOnce work a.state s e.call) (λ s e. ComesLast work journal a.state s e.call) a b
+      (λ s writing. written_brings a.state s writing) (λ s e once new. once new.number new.is new.new) went)
 
   -- and that all is done
   done_brings : (s0 s1 s : State) → IsSound s1 → BringsText (λ v. ⊥) work journal s0 s1 → KeepsText Is work journal s1 s → BringsText Is work journal s0 s

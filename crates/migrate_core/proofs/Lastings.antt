@@ -10,7 +10,7 @@ use Rattle.folder_spec.specs.declared.Spot.TheVariants.{FileNode}
 use Rattle.folder_spec.specs.Event.{Changes, Event, FromTo, Settle, Steps, Told, after, changed}
 use Rattle.folder_spec.specs.Moments.{EachEvent, EachState, Moments, Went}
 use Rattle.folder_spec.specs.Path.{Path}
-use Rattle.folder_spec.specs.Region.{IsAsBefore, SparesOld}
+use Rattle.folder_spec.specs.Region.{IsAsBefore}
 use Rattle.folder_spec.specs.Replace.{IsNewFile}
 use Rattle.folder_spec.specs.Seen.{IfSeen, IsSeen, seen, under}
 use Rattle.folder_spec.specs.State.{Node, State, Table, IsAmong, IsSound, IsTableOf, present}
@@ -25,7 +25,7 @@ use Rattle.migration_spec.specs.Guard.{HoldsAll, Migration}
 use Rattle.move_journal.proofs.Standing as standing
 use Rattle.move_journal.specs.Journal.{journal_text}
 use Rattle.move_journal.specs.Reading.{StandsIn}
-use Rattle.move_journal.specs.Writing.{HasWritten, IsWriting, Writes, elsewhere}
+use Rattle.move_journal.specs.Writing.{HasWritten, IsWriting, PutsOnce, Writes, WritesOnce, elsewhere}
 use Rattle.move_journal.specs.declared.journal.Journal.{Journal}
 use Rattle.move_journal.specs.declared.journal.Phase.TheVariants.{Building}
 use Rattle.work_folder.specs.Entering.{IsReady}
@@ -131,11 +131,11 @@ module _ (Is : View → Type 0) (work : Path) (journal : Journal) where
       (λ s e stayed h new. absurd (none_by_region region inside a.state s (sound a is) stayed new)) went)
 
   -- or that all is done is written there, while it is so of whatever has stayed beside the work folder
-  pub texts_written : (t u : Option Told) → AreSound t → ((w : View) → StaysBeside work t w → Is w) → Says → Writes work (done_of journal) t u → KeepsTexts Is work journal t u
+  pub texts_written : (t u : Option Told) → AreSound t → ((w : View) → StaysBeside work t w → Is w) → Says → WritesOnce work (done_of journal) t u → KeepsTexts Is work journal t u
   texts_written t u sound is_so says =
-      from_to_more (λ a b. Went (IsWriting work text a.state) (λ s e. SparesOld (elsewhere work) a.state s e.call) a b) (λ a b. Went (KeepsText Is work journal a.state) (λ s e. ComesLast work journal a.state s e.call) a b) t u
-      (λ a b is went. went_more (IsWriting work text a.state) (KeepsText Is work journal a.state) (λ s e. SparesOld (elsewhere work) a.state s e.call) (λ s e. ComesLast work journal a.state s e.call) a b
-      (λ s writing. by_writing a s is writing) (λ s e spares new. spares.0) went)
+      from_to_more (λ a b. Went (IsWriting work text a.state) (λ s e. PutsOnce work a.state s e.call) a b) (λ a b. Went (KeepsText Is work journal a.state) (λ s e. ComesLast work journal a.state s e.call) a b) t u
+      (λ a b is went. went_more (IsWriting work text a.state) (KeepsText Is work journal a.state) (λ s e. PutsOnce work a.state s e.call) (λ s e. ComesLast work journal a.state s e.call) a b
+      (λ s writing. by_writing a s is writing) (λ s e once new. once new.number new.is new.new) went)
     where
       beside : (a : Told) (s : State) → t ≡ Some a → IsWriting work text a.state s → StaysBeside work t (seen s)
       beside a s here writing v root is_v apart =

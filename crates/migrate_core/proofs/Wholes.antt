@@ -18,7 +18,6 @@ use Rattle.tree_match.specs.Comparing.{Content, Is, Outcome, Stops, compared, co
 use Rattle.tree_match.specs.Mapping.{mapped_item}
 use Rattle.tree_match.specs.Matching.{content_held, first_further, held_as, held_by, item_with}
 use Rattle.tree_match.specs.Trees.{IsMappedWalkOf, IsWalkOf, match_of, side_of}
-use Rattle.tree_match.specs.declared.answer.How.{How}
 use Rattle.tree_match.specs.declared.answer.Match.TheVariants.{Same}
 use Rattle.vault_spec.proofs.Mapped.{contains_mapped}
 use Rattle.vault_spec.specs.Alike.{place_of}

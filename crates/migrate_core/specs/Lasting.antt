@@ -4,7 +4,7 @@ use Rattle.folder_spec.specs.Apart.{AreApart}
 use Rattle.folder_spec.specs.Event.{Call, Told, FromTo}
 use Rattle.folder_spec.specs.Moments.{Moments}
 use Rattle.folder_spec.specs.Path.{Path}
-use Rattle.folder_spec.specs.Region.{Spares}
+use Rattle.folder_spec.specs.Region.{Spares, apart_from}
 use Rattle.folder_spec.specs.Replace.{IsNewFile}
 use Rattle.folder_spec.specs.Seen.{IfSeen, IsSeen, seen, under}
 use Rattle.folder_spec.specs.State.{State, Table, IsTableOf, present}
@@ -14,7 +14,6 @@ use Rattle.migration_spec.specs.Guard.{AreOpenedBy, Guarded, Migration}
 use Rattle.migration_sides.specs.Sides.{opened_in}
 use Rattle.move_journal.specs.Journal.{IsJournal, journal_text}
 use Rattle.move_journal.specs.Reading.{StandsIn}
-use Rattle.move_journal.specs.Writing.{elsewhere}
 use Rattle.move_journal.specs.declared.journal.Journal.{Journal}
 use Rattle.move_journal.specs.declared.journal.Phase.TheVariants.{Building}
 use Rattle.plain_tree.specs.declared.name_map.NameMap.{NameMap}
@@ -54,10 +53,10 @@ pub record KeepsText (Is : View → Type 0) (work : Path) (journal : Journal) (s
   pub nodes : (n : ℕ) → n < s0.made → s.nodes n ≡ s0.nodes n
   pub made : s0.made ≤ s.made
 
--- What says that all is done comes last: once a file made since s0 that says so stands at `journal`, a call touches nothing but that place
--- and `journal.new`.
+-- What says that all is done comes once, and last: where a file made since s0 that says so stands at `journal`, a call spares all paths
+-- but `journal.new`.
 abbrev pub ComesLast : Path → Journal → State → State → Call → Type 0
-ComesLast work journal s0 s call = IsNewFile (journal_text (done_of journal)) s0 s (present s (journal_path work)) → Spares (elsewhere work) call
+ComesLast work journal s0 s call = IsNewFile (journal_text (done_of journal)) s0 s (present s (journal_path work)) → Spares (apart_from (new_journal_path work)) call
 
 -- at each moment, and each call
 abbrev pub KeepsTexts : (View → Type 0) → Path → Journal → Option Told → Option Told → Type 0

@@ -1,27 +1,32 @@
 -- Where a journal is written, and what putting a file in the place of another says of it.
-use Rattle.std.proofs.Common.{◌≡◌, ℕ, Bool, List, Option, Some, None, Result, Ok, Err, OnOk, refl, ap, ◌∙◌, subst, inl, inr}
+use Rattle.std.proofs.Common.{◌≡◌, ◌<◌, ℕ, Bool, List, Option, Some, None, is_none, Result, Ok, Err, OnOk, refl, sym, ap, ◌∙◌, subst, inl, inr, arith, IsTrue}
 use Rattle.folder_spec.specs.Path.{Part, Path, below, child}
 use Rattle.folder_spec.specs.State.{Node, State, present, IsSound}
 use Rattle.folder_spec.specs.declared.FolderFault.{FolderFault}
-use Rattle.folder_spec.specs.Event.{Told, FromTo}
+use Rattle.folder_spec.specs.Event.{Call, Told, FromTo, Append, Create, MakeDir, RemoveDir, RemoveFile, Rename, Settle, Sync}
 use Rattle.folder_spec.specs.View.{Folder, FileOf, View, found, view_of}
 use Rattle.folder_spec.specs.Seen.{IfSeen, ShowsFilePlace, ShowsNothingOrFile, seen}
-use Rattle.folder_spec.specs.Region.{SparesOld, StagesOrPuts}
+use Rattle.folder_spec.specs.Region.{SparesOld, StagesOrPuts, apart_from}
 use Rattle.folder_spec.specs.Image.{Image, IsImage}
 use Rattle.folder_spec.specs.Replace.{IsNewFile, IsReplacing, HasReplaced, IsOldOrNew, IsReplaced, ShowsOldOrNew, IsCleanAt}
 use Rattle.folder_spec.proofs.Paths.{parent-child, child-not_base, below-sibling}
 use Rattle.folder_spec.proofs.Moments.{went_more}
 use Rattle.folder_spec.proofs.Tellings.{from_to_more}
-use Rattle.folder_spec.proofs.Stages.{Replacing, puts_spare, replacing_none}
+use Rattle.folder_spec.proofs.Stages.{Replacing, puts_spare, replacing_none, stages_spare}
+use Rattle.folder_spec.proofs.Tables.{present_is_table}
+use Rattle.folder_spec.specs.declared.Spot.TheVariants.{FileNode}
 use Rattle.folder_staging.specs.Places.{MayPublish}
 use Rattle.move_journal.specs.declared.journal.Journal.{Journal}
 use Rattle.move_journal.specs.Journal.{journal_text}
 use Rattle.move_journal.specs.Reading.{journal_bytes, file_bytes}
 use Rattle.work_folder.specs.Entries.{journal_path, new_journal_path}
-use Rattle.move_journal.specs.Writing.{IsWorkFolder, IsWriting, IsWritten, Writes, HasWritten, elsewhere}
+use Rattle.move_journal.specs.Writing.{IsWorkFolder, IsWriting, IsWritten, PutsOnce, Writes, WritesOnce, HasWritten, elsewhere}
 
 apart : (work : Path) → below (new_journal_path work) (journal_path work) ≡ None
 apart work = below-sibling work _ _ refl
+
+apart_itself : (work : Path) → IsTrue (apart_from (new_journal_path work) (journal_path work))
+apart_itself work = ap is_none (apart work)
 
 -- the law of folder_spec on files that are put in the place of others
 pub record ReplacedFiles : Type 0 where
@@ -61,6 +66,32 @@ writes_from law work journal t u sound moments =
     (λ s e. StagesOrPuts (new_journal_path work) (journal_path work) a.state s e.call) (λ s e. SparesOld (elsewhere work) a.state s e.call) a b
     (λ s h. is_writing law work (journal_text journal) a.state s (sound a is) h) (λ s e h. puts_spare (new_journal_path work) (journal_path work) a.state s e.call h) went) moments
 
+-- a file is put in its place while what stood there at first does, and else only staged
+puts_once : (work : Path) (s0 s : State) (call : Call) → IsSound s0 → StagesOrPuts (new_journal_path work) (journal_path work) s0 s call → PutsOnce work s0 s call
+puts_once work s0 s (Rename old new) sound h n there made =
+    let before : present s0 (journal_path work) ≡ FileNode n = sym (h.2.seen (journal_path work) (apart_itself work)) ∙ there in
+    let few : n < s0.made = (sound.tables (present s0) (present_is_table s0)).is_made (journal_path work) n before in
+    absurd (omega (arith, few, made))
+puts_once work s0 s Settle sound h n there made = tt
+puts_once work s0 s (MakeDir p) sound h n there made = (stages_spare (new_journal_path work) s0 s (MakeDir p) h).0
+puts_once work s0 s (Create p) sound h n there made = (stages_spare (new_journal_path work) s0 s (Create p) h).0
+puts_once work s0 s (Append p piece) sound h n there made = (stages_spare (new_journal_path work) s0 s (Append p piece) h).0
+puts_once work s0 s (Sync p) sound h n there made = (stages_spare (new_journal_path work) s0 s (Sync p) h).0
+puts_once work s0 s (RemoveFile p) sound h n there made = (stages_spare (new_journal_path work) s0 s (RemoveFile p) h).0
+puts_once work s0 s (RemoveDir p) sound h n there made = (stages_spare (new_journal_path work) s0 s (RemoveDir p) h).0
+
+once_from : (law : ReplacedFiles) (work : Path) (journal : Journal) (t u : Option Told) → ((a : Told) → t ≡ Some a → IsSound a.state)
+    → FromTo (Replacing (new_journal_path work) (journal_path work) (journal_text journal)) t u → WritesOnce work journal t u
+once_from law work journal t u sound moments =
+    from_to_more (Replacing (new_journal_path work) (journal_path work) (journal_text journal)) _ t u
+    (λ a b is went. went_more (IsReplacing (new_journal_path work) (journal_path work) (journal_text journal) a.state) (IsWriting work (journal_text journal) a.state)
+    (λ s e. StagesOrPuts (new_journal_path work) (journal_path work) a.state s e.call) (λ s e. PutsOnce work a.state s e.call) a b
+    (λ s h. is_writing law work (journal_text journal) a.state s (sound a is) h) (λ s e h. puts_once work a.state s e.call (sound a is) h) went) moments
+
+pub once_none : (law : ReplacedFiles) (work : Path) (journal : Journal) (t : Option Told) → ((a : Told) → t ≡ Some a → IsSound a.state) → WritesOnce work journal t t
+once_none law work journal t sound =
+    once_from law work journal t t sound (replacing_none (new_journal_path work) (journal_path work) (journal_text journal) (apart work) t sound)
+
 -- no call yet
 pub writes_none : (law : ReplacedFiles) (work : Path) (journal : Journal) (t : Option Told) → ((a : Told) → t ≡ Some a → IsSound a.state) → Writes work journal t t
 writes_none law work journal t sound =
@@ -74,6 +105,9 @@ module _ (law : ReplacedFiles) (t u : Option Told) (work new at : Path) (bytes :
 
   pub writes_at : ((a : Told) → t ≡ Some a → IsSound a.state) → FromTo (Replacing new at bytes) t u → Writes work journal t u
   writes_at sound h = writes_from law work journal t u sound (at_these (λ p q b. FromTo (Replacing p q b) t u) h)
+
+  pub once_at : ((a : Told) → t ≡ Some a → IsSound a.state) → FromTo (Replacing new at bytes) t u → WritesOnce work journal t u
+  once_at sound h = once_from law work journal t u sound (at_these (λ p q b. FromTo (Replacing p q b) t u) h)
 
   pub written_at : (result : Result (Unit {0}) FolderFault) → OnOk result (FromTo (λ a b. HasReplaced new at bytes a.state b.state) t u)
       → OnOk result (HasWritten work journal t u)

@@ -1,12 +1,12 @@
 -- What writing a journal leaves behind.
-use Rattle.std.specs.Prelude.{◌≡◌, List, [], ◌∷◌, ℕ, Bool, Option, Some, Result, Ok, Err}
-use Rattle.folder_spec.specs.declared.Spot.TheVariants.{Nothing}
+use Rattle.std.specs.Prelude.{◌≡◌, ◌≤◌, List, [], ◌∷◌, ℕ, Bool, Option, Some, Result, Ok, Err}
+use Rattle.folder_spec.specs.declared.Spot.TheVariants.{FileNode, Nothing}
 use Rattle.folder_spec.specs.Path.{Path}
 use Rattle.folder_spec.specs.State.{State, present}
-use Rattle.folder_spec.specs.Event.{Told, FromTo}
+use Rattle.folder_spec.specs.Event.{Call, Told, FromTo}
 use Rattle.folder_spec.specs.Image.{Image, IsImage}
 use Rattle.folder_spec.specs.Moments.{Moments}
-use Rattle.folder_spec.specs.Region.{HasOldOrFile, SparesOld, apart_from_both}
+use Rattle.folder_spec.specs.Region.{HasOldOrFile, Spares, SparesOld, apart_from, apart_from_both}
 use Rattle.folder_spec.specs.Written.{HoldFronts}
 use Rattle.folder_spec.specs.Replace.{IsOldOrNew, IsReplaced, ShowsOldOrNew, IsCleanAt}
 use Rattle.folder_spec.specs.View.{Folder, FileOf, View, view_of}
@@ -60,6 +60,14 @@ pub record IsWritten (work : Path) (text : List ℕ) (s0 s : State) : Type 0 whe
 -- At each moment the journal is being written, and each call of the folder spares all other paths and the files of then.
 abbrev pub Writes : Path → Journal → Option Told → Option Told → Type 0
 Writes work journal = Moments (IsWriting work (journal_text journal)) (λ s0 s e. SparesOld (elsewhere work) s0 s e.call)
+
+-- It is put in its place once: where a file made since s0 stands there, a call spares all paths but `journal.new`.
+abbrev pub PutsOnce : Path → State → State → Call → Type 0
+PutsOnce work s0 s call = (n : ℕ) → present s (journal_path work) ≡ FileNode n → s0.made ≤ n → Spares (apart_from (new_journal_path work)) call
+
+-- at each moment it is being written, and each call puts it there once
+abbrev pub WritesOnce : Path → Journal → Option Told → Option Told → Type 0
+WritesOnce work journal = Moments (IsWriting work (journal_text journal)) (λ s0 s e. PutsOnce work s0 s e.call)
 
 abbrev pub HasWritten : Path → Journal → Option Told → Option Told → Type 0
 HasWritten work journal = FromTo (λ a b. IsWritten work (journal_text journal) a.state b.state)

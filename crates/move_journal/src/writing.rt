@@ -3,7 +3,7 @@ ghost use Rattle.std.specs.Prelude.{◌≤◌, OnOk};
 ghost use Rattle.folder_spec.specs.Seen.{IfSeen};
 ghost use Rattle.folder_model.specs.Answers.{CountsAbove};
 ghost use Rattle.folder_model.specs.Text.{IsParsed};
-ghost use Rattle.move_journal.specs.Writing.{IsWorkFolder, Writes, HasWritten};
+ghost use Rattle.move_journal.specs.Writing.{IsWorkFolder, Writes, WritesOnce, HasWritten};
 
 use crate::journal::Journal;
 use crate::text::text_of;
@@ -28,6 +28,7 @@ pub fn write<F: Folder>(
     requires items { journal.now.items ≤ 200000 }
     requires work_folder { IfSeen (F.told folder.old) (λ v. IsWorkFolder v work.now) }
     ensures moments { Writes work.now journal.now (F.told folder.old) (F.told folder.new) }
+    ensures once { WritesOnce work.now journal.now (F.told folder.old) (F.told folder.new) }
     ensures written { OnOk result (HasWritten work.now journal.now (F.told folder.old) (F.told folder.new)) }
     ensures counts { CountsAbove (F.faults folder.old) (F.faults folder.new) result }
 {

@@ -373,7 +373,7 @@ returns-in_err-write-clause-journal g c =
     let Trees = HaveMappedTree rule from to in (
       items,
       subst (λ (j : Journal). BringsTexts Trees work j told written) (is_new g (goal.at.returns-in_err-write-clause-journal g c).After-write)
-          (brings_then Trees work c.in_ok-journal.journal told here written (g.met.F.Folder.sound c.args.folder.now) (texts_entered work c.in_ok-journal.journal told here (g.met.F.Folder.sound c.args.folder.now) c.enter.ensures.enters.moments) (brings_written Trees work c.in_ok-journal.journal here written c.write.ensures.moments)),
+          (brings_then Trees work c.in_ok-journal.journal told here written (g.met.F.Folder.sound c.args.folder.now) (texts_entered work c.in_ok-journal.journal told here (g.met.F.Folder.sound c.args.folder.now) c.enter.ensures.enters.moments) (brings_written Trees work c.in_ok-journal.journal here written c.write.ensures.once)),
     )
 
 pub returns-clause-journal : goal.returns-clause-journal
@@ -392,6 +392,6 @@ returns-clause-journal g c =
       items,
       subst (λ (j : Journal). BringsTexts Trees work j told after) (is_new g (goal.at.returns-clause-journal g c).After-write)
           (brings_done Trees work j told written after (ap (λ (k : Journal). k.phase) (is_new g (goal.at.returns-clause-journal g c).After-write)) (g.met.F.Folder.sound c.args.folder.now) (g.met.F.Folder.sound c.write.new.folder)
-          (brings_then (λ v. ⊥) work j told here written (g.met.F.Folder.sound c.args.folder.now) (texts_entered work j told here (g.met.F.Folder.sound c.args.folder.now) c.enter.ensures.enters.moments) (brings_written (λ v. ⊥) work j here written c.write.ensures.moments))
+          (brings_then (λ v. ⊥) work j told here written (g.met.F.Folder.sound c.args.folder.now) (texts_entered work j told here (g.met.F.Folder.sound c.args.folder.now) c.enter.ensures.enters.moments) (brings_written (λ v. ⊥) work j here written c.write.ensures.once))
           (subst (λ w. KeepsTexts Trees w j written after) c.in_ok-entered.ensures.path c.go_on.ensures.journal)),
     )

@@ -128,7 +128,7 @@ pub returns-in_err-settle-in-Done-clause-journal : goal.returns-in_err-settle-in
 returns-in_err-settle-in-Done-clause-journal g c = texts_settled (StaysBeside c.args.work.now (g.F.Folder.told c.args.folder.now)) c.args.work.now c.args.journal (g.F.Folder.told c.args.folder.now) (g.F.Folder.told c.settle.new.self) c.settle.result c.settle.ensures.changes
 
 pub returns-in_ok-write-in-Building-clause-journal : goal.returns-in_ok-write-in-Building-clause-journal
-returns-in_ok-write-in-Building-clause-journal g c = texts_written (StaysBeside c.args.work.now (g.F.Folder.told c.args.folder.now)) c.args.work.now c.args.journal (g.F.Folder.told c.args.folder.now) (g.F.Folder.told c.write.new.folder) (g.met.F.Folder.sound c.args.folder.now) (λ w stays. stays) c.in-Building.is c.write.ensures.moments
+returns-in_ok-write-in-Building-clause-journal g c = texts_written (StaysBeside c.args.work.now (g.F.Folder.told c.args.folder.now)) c.args.work.now c.args.journal (g.F.Folder.told c.args.folder.now) (g.F.Folder.told c.write.new.folder) (g.met.F.Folder.sound c.args.folder.now) (λ w stays. stays) c.in-Building.is c.write.ensures.once
 
 pub returns-in_err-write-in-Building-clause-journal : goal.returns-in_err-write-in-Building-clause-journal
-returns-in_err-write-in-Building-clause-journal g c = texts_written (StaysBeside c.args.work.now (g.F.Folder.told c.args.folder.now)) c.args.work.now c.args.journal (g.F.Folder.told c.args.folder.now) (g.F.Folder.told c.write.new.folder) (g.met.F.Folder.sound c.args.folder.now) (λ w stays. stays) c.in-Building.is c.write.ensures.moments
+returns-in_err-write-in-Building-clause-journal g c = texts_written (StaysBeside c.args.work.now (g.F.Folder.told c.args.folder.now)) c.args.work.now c.args.journal (g.F.Folder.told c.args.folder.now) (g.F.Folder.told c.write.new.folder) (g.met.F.Folder.sound c.args.folder.now) (λ w stays. stays) c.in-Building.is c.write.ensures.once

@@ -1,5 +1,5 @@
 use Rattle.std.proofs.Common.{◌∙◌}
-use Rattle.move_journal.proofs.Writings.{writes_none, writes_at, written_at, may_publish}
+use Rattle.move_journal.proofs.Writings.{once_at, once_none, writes_none, writes_at, written_at, may_publish}
 use Rattle.move_journal.proofs.writing.write.Goals as goal
 
 pub returns-in_err-text-clause-moments : goal.returns-in_err-text-clause-moments
@@ -34,3 +34,25 @@ returns-clause-written g c =
     written_at (record { images = law.images; settled = law.settled; clean = law.clean }) (g.F.Folder.told c.args.folder.now) (g.F.Folder.told c.replace_file.new.folder) c.args.work.now c.in_ok-new.new c.in_ok-at.at
     c.as_bytes.result.now c.args.journal.now c.in_ok-new.ensures c.in_ok-at.ensures (c.as_bytes.ensures.value ∙ c.in_ok-text.ensures)
     c.replace_file.result c.replace_file.ensures.replaced
+
+pub returns-in_err-text-clause-once : goal.returns-in_err-text-clause-once
+returns-in_err-text-clause-once g c =
+    let law = c.replaced_files_are_old_or_new.ensures in
+    once_none (record { images = law.images; settled = law.settled; clean = law.clean }) c.args.work.now c.args.journal.now (g.F.Folder.told c.args.folder.now) (g.met.F.Folder.sound c.args.folder.now)
+
+pub returns-in_err-new-clause-once : goal.returns-in_err-new-clause-once
+returns-in_err-new-clause-once g c =
+    let law = c.replaced_files_are_old_or_new.ensures in
+    once_none (record { images = law.images; settled = law.settled; clean = law.clean }) c.args.work.now c.args.journal.now (g.F.Folder.told c.args.folder.now) (g.met.F.Folder.sound c.args.folder.now)
+
+pub returns-in_err-at-clause-once : goal.returns-in_err-at-clause-once
+returns-in_err-at-clause-once g c =
+    let law = c.replaced_files_are_old_or_new.ensures in
+    once_none (record { images = law.images; settled = law.settled; clean = law.clean }) c.args.work.now c.args.journal.now (g.F.Folder.told c.args.folder.now) (g.met.F.Folder.sound c.args.folder.now)
+
+pub returns-clause-once : goal.returns-clause-once
+returns-clause-once g c =
+    let law = c.replaced_files_are_old_or_new.ensures in
+    once_at (record { images = law.images; settled = law.settled; clean = law.clean }) (g.F.Folder.told c.args.folder.now) (g.F.Folder.told c.replace_file.new.folder) c.args.work.now c.in_ok-new.new c.in_ok-at.at
+    c.as_bytes.result.now c.args.journal.now c.in_ok-new.ensures c.in_ok-at.ensures (c.as_bytes.ensures.value ∙ c.in_ok-text.ensures)
+    (g.met.F.Folder.sound c.args.folder.now) c.replace_file.ensures.moments

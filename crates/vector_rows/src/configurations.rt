@@ -19,7 +19,7 @@ pub fn answer(name: &str, args: &mut Arguments, answer: &mut Answer) -> bool {
     match name {
         "go-conf" => go_read(args.bytes(0), answer),
         "go-make" => go_make(args, answer),
-        "go-cost" | "go-salt" | "go-unlock" => go_answer(name, args, answer),
+        "go-cost" | "go-salt" | "go-unlock" | "go-reseal" => go_answer(name, args, answer),
         "go-conf-with"
         | "cm-master-with"
         | "cm-header-with"
@@ -76,6 +76,7 @@ fn go_answer(name: &str, args: &Arguments, answer: &mut Answer) {
     match name {
         "go-cost" => cost_shown(&conf.cost, answer),
         "go-salt" => go_salt(conf, answer),
+        "go-reseal" => go_reseal(&conf, args, answer),
         _ => go_unlock(&conf, args.bytes(1), answer),
     }
 }
@@ -94,6 +95,20 @@ fn go_unlock(conf: &GoConf, pass: &[u8], answer: &mut Answer) {
             answer.bytes(&keys.content);
             answer.bytes(&keys.names);
         }
+        Err(gocrypt_conf::UnlockFault::WrongPass) => answer.word("wrong passphrase"),
+        Err(gocrypt_conf::UnlockFault::NoMemory) => answer.lacks(),
+    }
+}
+
+// The text for another passphrase, with a cost, a salt and a nonce.
+fn go_reseal(conf: &GoConf, args: &Arguments, answer: &mut Answer) {
+    let Some(cost) = cost(args, 3) else {
+        return args.refuse("no cost");
+    };
+    let (alloc, pass, new_pass) = (answer.alloc(), args.bytes(1), args.bytes(2));
+    let (salt, nonce): ([u8; 32], [u8; 16]) = (args.array(6), args.array(7));
+    match gocrypt_conf::reseal(alloc, conf, pass, new_pass, &cost, &salt, &nonce) {
+        Ok(text) => answer.bytes(text.as_slice()),
         Err(gocrypt_conf::UnlockFault::WrongPass) => answer.word("wrong passphrase"),
         Err(gocrypt_conf::UnlockFault::NoMemory) => answer.lacks(),
     }
@@ -118,7 +133,7 @@ fn go_make(args: &Arguments, answer: &mut Answer) {
 fn cm_answer(name: &str, args: &Arguments, answer: &mut Answer) -> bool {
     match name {
         "cm-vault" => vault_read(args.bytes(0), answer),
-        "cm-unlock" => cm_unlock(args, answer),
+        "cm-unlock" | "cm-rewrap" => cm_unlock(name, args, answer),
         "cm-signature" => signature(args.bytes(2), args, 0, answer),
         "cm-signature-before" => signature_before(args, answer),
         "cm-make-master" => made(args, answer, true),
@@ -165,8 +180,9 @@ pub fn keys(args: &Arguments, place: usize) -> CmKeys
     }
 }
 
-fn cm_unlock(args: &Arguments, answer: &mut Answer) {
+fn cm_unlock(name: &str, args: &Arguments, answer: &mut Answer) {
     match read_master(answer.alloc(), args.bytes(0)).ok() {
+        Some(file) if name == "cm-rewrap" => cm_rewrapped(&file, args, answer),
         Some(file) => cm_unlocked(&file, args.bytes(1), answer),
         None => args.refuse("no masterkey.cryptomator"),
     }
@@ -178,6 +194,19 @@ fn cm_unlocked(file: &MasterFile, pass: &[u8], answer: &mut Answer) {
             answer.bytes(&keys.enc);
             answer.bytes(&keys.mac);
         }
+        Err(cryptomator_conf::UnlockFault::WrongPass) => answer.word("wrong passphrase"),
+        Err(cryptomator_conf::UnlockFault::NoMemory) => answer.lacks(),
+    }
+}
+
+// The text for another passphrase, with a cost and a salt.
+fn cm_rewrapped(file: &MasterFile, args: &Arguments, answer: &mut Answer) {
+    let Some(cost) = cost(args, 3) else {
+        return args.refuse("no cost");
+    };
+    let (alloc, pass, new_pass) = (answer.alloc(), args.bytes(1), args.bytes(2));
+    match cryptomator_conf::rewrap(alloc, file, pass, new_pass, &cost, &args.array(6)) {
+        Ok(text) => answer.bytes(text.as_slice()),
         Err(cryptomator_conf::UnlockFault::WrongPass) => answer.word("wrong passphrase"),
         Err(cryptomator_conf::UnlockFault::NoMemory) => answer.lacks(),
     }

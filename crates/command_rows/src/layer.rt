@@ -83,7 +83,9 @@ fn call_by(stage: &mut Stage, verb: &str, words: &str, handed: &mut Handed) {
         "work" => call_work(stage, words),
         "map_plan" => call_mapping(stage, words),
         "holds_all" => call_matching(stage, words),
-        "load" | "find" | "enter" | "items" | "cat" => call_reading(stage, verb, words, handed),
+        "load" | "find" | "enter" | "items" | "items_in" | "allows" | "cat" => {
+            call_reading(stage, verb, words, handed)
+        }
         "survey" | "walk" | "digest" | "check" | "repair" => call_walking(stage, verb, words),
         "begin" | "go_on" | "resume" | "retire" | "retire_on" => {
             call_moving(stage, verb, words, handed)

@@ -1,13 +1,16 @@
 //! Calls of vault_read.
+ghost use Rattle.vault_read.specs.Opened.{FitsKey};
+
 use crate::faults::{cat_fault, find_fault, load_fault};
 use crate::places::{plain_path, vault_named};
-use folder_model::FPath;
+use folder_model::{FPath, Folder, Kind};
 use plain_tree::{NodeKind, PlainPath};
 use row_playing::stage::MOST_SHOWN;
-use row_playing::{Handed, Stage};
+use row_playing::{Handed, Stage, Stop};
 use row_words::cut;
+use std::alloc::Global;
 use vault_faults::FindFault;
-use vault_read::{Vault, VaultKind, cat, enter, find, list};
+use vault_read::{Found, Vault, VaultKind, cat, enter, find, items_in, list};
 
 /// The letter of a directory or a file.
 pub fn node_letter(node: NodeKind) -> &'static str {
@@ -78,6 +81,62 @@ fn call_list(stage: &mut Stage, vault: &Vault, path: &PlainPath) {
     }
 }
 
+fn say_found(stage: &mut Stage, found: &[Found]) {
+    for one in found {
+        stage.said.word(node_letter(one.item.node));
+        stage.said.made(one.item.name.shown());
+        stage.said.made(one.at.text());
+        stage.said.end();
+    }
+    stage.done("done");
+}
+
+// The items that a folder of a vault holds by a key. What is no folder has failed.
+fn found_in<F: Folder>(
+    alloc: Global,
+    folder: &mut F,
+    vault: &Vault,
+    at: &FPath,
+    key: &[u8],
+) -> Result<Vec<Found>, FindFault>
+    requires { FitsKey vault.now.vault key.now }
+{
+    let full = vault.root().joined(at)?;
+    match folder.kind(&full)? {
+        Kind::Dir => items_in(alloc, folder, vault, at, key),
+        Kind::Missing | Kind::File | Kind::Other => Err(FindFault::Failed),
+    }
+}
+
+// Says the items that a folder holds by the key of the directory at a path, and their places: `FOLDER PATH`.
+fn call_items_in(stage: &mut Stage, vault: &Vault, words: &str) {
+    let (folder, path) = cut(words);
+    let at = stage.path(folder);
+    let path = plain_path(stage, path);
+    match enter(stage.alloc, &mut stage.folder, vault, &path) {
+        Ok(dir) => {
+            let key = dir.key.as_slice();
+            match found_in(stage.alloc, &mut stage.folder, vault, &at, key) {
+                Ok(found) => say_found(stage, found.as_slice()),
+                Err(fault) => say_find_fault(stage, fault),
+            }
+        }
+        Err(fault) => say_find_fault(stage, fault),
+    }
+}
+
+// Says whether a vault allows the last name of a path.
+fn call_allows(stage: &mut Stage, vault: &Vault, path: &PlainPath) {
+    let Some(name) = path.names().last() else {
+        return stage.stop(Stop::Line);
+    };
+    match vault.allows(name) {
+        Ok(true) => stage.done("yes"),
+        Ok(false) => stage.done("no"),
+        Err(_) => stage.stop(Stop::NoMemory),
+    }
+}
+
 // Says what a content comes to, and the bytes that were written.
 fn call_cat(stage: &mut Stage, vault: &Vault, path: &PlainPath, handed: &mut Handed) {
     let answer = cat(stage.alloc, &mut stage.folder, vault, path, &mut handed.out);
@@ -90,16 +149,21 @@ fn call_cat(stage: &mut Stage, vault: &Vault, path: &PlainPath, handed: &mut Han
     stage.ended(status);
 }
 
-/// Plays `load AT PASS`, `find VAULT PATH`, `enter VAULT PATH`, `items VAULT PATH` and `cat VAULT PATH`.
+/// Plays `load AT PASS`, `find VAULT PATH`, `enter VAULT PATH`, `items VAULT PATH`, `items_in VAULT FOLDER PATH`, `allows VAULT PATH` and
+/// `cat VAULT PATH`.
 pub fn call_reading(stage: &mut Stage, verb: &str, words: &str, handed: &mut Handed) {
     if verb == "load" {
         return call_load(stage, words);
     }
-    let (vault, path) = cut(words);
-    let path = plain_path(stage, path);
-    if let Some(vault) = vault_named(stage, vault) {
-        read_in(stage, verb, &vault, &path, handed);
+    let (vault, words) = cut(words);
+    let Some(vault) = vault_named(stage, vault) else {
+        return;
+    };
+    if verb == "items_in" {
+        return call_items_in(stage, &vault, words);
     }
+    let path = plain_path(stage, words);
+    read_in(stage, verb, &vault, &path, handed);
 }
 
 fn read_in(stage: &mut Stage, verb: &str, vault: &Vault, path: &PlainPath, handed: &mut Handed) {
@@ -107,6 +171,7 @@ fn read_in(stage: &mut Stage, verb: &str, vault: &Vault, path: &PlainPath, hande
         "find" => call_find(stage, vault, path),
         "enter" => call_enter(stage, vault, path),
         "items" => call_list(stage, vault, path),
+        "allows" => call_allows(stage, vault, path),
         _ => call_cat(stage, vault, path, handed),
     }
 }

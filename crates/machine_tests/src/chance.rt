@@ -13,7 +13,8 @@ pub const ROOTS: [&str; 2] = ["v", "w"];
 /// The name of the links.
 pub const LINK: &str = "l";
 
-const NAMES: [&str; 5] = ["a", "b", "c", "a", LINK];
+/// The names below them.
+pub const NAMES: [&str; 5] = ["a", "b", "c", "a", LINK];
 
 /// Numbers that follow one another by a seed.
 #[derive(Drop)]

@@ -1,7 +1,7 @@
 //! Rounds of calls that are made of a claimed folder of the machine and of one in memory, and compared.
 
 use crate::acting::{Act, Question, Step, acted, answered};
-use crate::chance::{Chance, LINK, ROOTS};
+use crate::chance::{Chance, LINK, NAMES, ROOTS};
 use crate::tally::Tally;
 use folder_model::{FPath, Folder, FolderFault, Kind, MemFolder};
 use host_places::{Hold, Wanted};
@@ -36,7 +36,10 @@ pub fn play_round(rt: &HostRuntime, seed: u64, calls: u32, tally: &mut Tally) ->
     }
     for number in 0..calls {
         let step = Step::draw(rt.alloc(), &mut chance, &mut folders.model)?;
-        if !folders.take(rt, &step, tally)? || !folders.compare(rt, &mut chance)? {
+        if !folders.take(rt, &step, tally)?
+            || !folders.ask_moved(rt, &step)?
+            || !folders.compare(rt, &mut chance)?
+        {
             println!(rt; "round {seed}, call {number}")?;
             return Ok(false);
         }
@@ -157,6 +160,34 @@ impl Folders {
             text_of(wanted)
         )?;
         Ok(false)
+    }
+
+    // Behind the move of a directory, asks what stands below its old place.
+    fn ask_moved(&mut self, rt: &HostRuntime, step: &Step) -> io::Result<bool> {
+        match step.act {
+            Act::Rename if self.is_dir(&step.to) => self.ask_below(rt, &step.at),
+            _ => Ok(true),
+        }
+    }
+
+    // Asks of each name at and below a path: whether the answers are the model's.
+    fn ask_below(&mut self, rt: &HostRuntime, at: &FPath) -> io::Result<bool> {
+        for above in NAMES {
+            let dir = at.child(above)?;
+            for name in NAMES {
+                let below = dir.child(name)?;
+                if !same(
+                    rt,
+                    &mut self.claimed,
+                    &mut self.model,
+                    Question::Kind,
+                    &below,
+                )? {
+                    return Ok(false);
+                }
+            }
+        }
+        Ok(true)
     }
 
     // Whether the model would do a call whose name is too long.

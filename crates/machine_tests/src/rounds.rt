@@ -30,7 +30,7 @@ struct Folders {
 pub fn play_round(rt: &HostRuntime, seed: u64, calls: u32, tally: &mut Tally) -> io::Result<bool> {
     let mut chance = Chance::new(seed);
     let mut folders = begun(rt, seed)?;
-    if !folders.ask_links(rt)? {
+    if !folders.ask_links(rt)? || !folders.ask_replaced(rt)? {
         println!(rt; "round {seed}, before the first call")?;
         return Ok(false);
     }
@@ -84,6 +84,24 @@ fn make_roots<F: Folder>(alloc: Global, folder: &mut F) -> Result<(), AllocError
     Ok(())
 }
 
+// Makes a directory, removes it, and moves another one with a file to its place.
+fn replace<F: Folder>(folder: &mut F, root: &FPath, dir: &FPath) -> Result<(), AllocError> {
+    let other = root.child("b")?;
+    let file = other.child("c")?;
+    let _ = folder.make_dir(&other);
+    let _ = folder.create(&file);
+    let _ = folder.make_dir(dir);
+    let _ = folder.kind(&file);
+    let _ = folder.remove_dir(dir);
+    let _ = folder.rename(&other, dir);
+    Ok(())
+}
+
+fn remove<F: Folder>(folder: &mut F, dir: &FPath, file: &FPath) {
+    let _ = folder.remove_file(file);
+    let _ = folder.remove_dir(dir);
+}
+
 fn claim_roots(alloc: Global, folder: &mut HostFolder) -> Result<(), AllocError> {
     let mut wanted = Vec::new(alloc);
     for name in ROOTS {
@@ -135,6 +153,30 @@ impl Folders {
             )? {
                 return Ok(false);
             }
+        }
+        Ok(true)
+    }
+
+    // Brings a directory to the place of another one in each of the directories, and asks what stands in it: whether the answers are the
+    // model's. All of it is removed then.
+    fn ask_replaced(&mut self, rt: &HostRuntime) -> io::Result<bool> {
+        for name in ROOTS {
+            let root = FPath::base(rt.alloc()).child(name)?;
+            let dir = root.child("a")?;
+            let file = dir.child("c")?;
+            replace(&mut self.claimed, &root, &dir)?;
+            replace(&mut self.model, &root, &dir)?;
+            if !same(
+                rt,
+                &mut self.claimed,
+                &mut self.model,
+                Question::Kind,
+                &file,
+            )? {
+                return Ok(false);
+            }
+            remove(&mut self.claimed, &dir, &file);
+            remove(&mut self.model, &dir, &file);
         }
         Ok(true)
     }

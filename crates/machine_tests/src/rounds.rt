@@ -97,9 +97,10 @@ fn replace<F: Folder>(folder: &mut F, root: &FPath, dir: &FPath) -> Result<(), A
     Ok(())
 }
 
-fn remove<F: Folder>(folder: &mut F, dir: &FPath, file: &FPath) {
-    let _ = folder.remove_file(file);
+fn remove<F: Folder>(folder: &mut F, dir: &FPath) -> Result<(), AllocError> {
+    let _ = folder.remove_file(&dir.child("c")?);
     let _ = folder.remove_dir(dir);
+    Ok(())
 }
 
 fn claim_roots(alloc: Global, folder: &mut HostFolder) -> Result<(), AllocError> {
@@ -163,20 +164,13 @@ impl Folders {
         for name in ROOTS {
             let root = FPath::base(rt.alloc()).child(name)?;
             let dir = root.child("a")?;
-            let file = dir.child("c")?;
             replace(&mut self.claimed, &root, &dir)?;
             replace(&mut self.model, &root, &dir)?;
-            if !same(
-                rt,
-                &mut self.claimed,
-                &mut self.model,
-                Question::Kind,
-                &file,
-            )? {
+            if !self.ask_names(rt, &dir)? {
                 return Ok(false);
             }
-            remove(&mut self.claimed, &dir, &file);
-            remove(&mut self.model, &dir, &file);
+            remove(&mut self.claimed, &dir)?;
+            remove(&mut self.model, &dir)?;
         }
         Ok(true)
     }
@@ -212,21 +206,22 @@ impl Folders {
         }
     }
 
-    // Asks of each name at and below a path: whether the answers are the model's.
+    // Asks of each name in each directory that could stand in a path: whether the answers are the model's.
     fn ask_below(&mut self, rt: &HostRuntime, at: &FPath) -> io::Result<bool> {
         for above in NAMES {
-            let dir = at.child(above)?;
-            for name in NAMES {
-                let below = dir.child(name)?;
-                if !same(
-                    rt,
-                    &mut self.claimed,
-                    &mut self.model,
-                    Question::Kind,
-                    &below,
-                )? {
-                    return Ok(false);
-                }
+            if !self.ask_names(rt, &at.child(above)?)? {
+                return Ok(false);
+            }
+        }
+        Ok(true)
+    }
+
+    // Asks of each name in a directory: whether the answers are the model's.
+    fn ask_names(&mut self, rt: &HostRuntime, dir: &FPath) -> io::Result<bool> {
+        for name in NAMES {
+            let at = dir.child(name)?;
+            if !same(rt, &mut self.claimed, &mut self.model, Question::Kind, &at)? {
+                return Ok(false);
             }
         }
         Ok(true)
